@@ -1,0 +1,5 @@
+pub mod Fields
+pub mod Refusals
+pub mod Sizes
+pub mod Terms
+pub mod Valuations

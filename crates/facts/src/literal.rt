@@ -1,0 +1,153 @@
+// A literal as a caller sends it: its fields are raw, and may be out of range.
+ghost use mathlib.Core.Path.{_≡_};
+ghost use Prim.Native.Nat.{ℕ, _+_, _*_, _≤_};
+ghost use lib.IntN.{pos, _+ℤ_};
+ghost use lib.ListN.{length, getD, set};
+ghost use Rattle.facts.specs.Fields.{TermChecked, RowChecked};
+ghost use Rattle.facts.specs.Sizes.{Sized, sent-limit};
+ghost use Rattle.std.specs.Orderings.{Decides};
+use crate::fact::Fact;
+use crate::fact::Relation;
+use crate::name::Name;
+use crate::row::Row;
+use crate::symbol::Symbol;
+use crate::term::Term;
+
+// The largest size of a constant or a coefficient that is sent.
+pub const SENT_LIMIT: i32 = 1_000_000_000;
+
+// A term in four bytes. Tag 0 is a bare name, 1 and 2 a symbol with one and two places.
+#[derive(Clone, Copy)]
+pub struct SentTerm {
+    pub tag: u8,
+    pub letter: u8,
+    pub first: u8,
+    pub second: u8,
+}
+
+// A name and its coefficient.
+#[derive(Clone, Copy)]
+pub struct SentPair {
+    pub name: u8,
+    pub coefficient: i32,
+}
+
+// A constant and four names with coefficients; where a name stands twice, its coefficients add.
+#[derive(Clone, Copy)]
+pub struct SentRow {
+    pub constant: i32,
+    pub pairs: [SentPair; 4],
+}
+
+#[derive(Clone, Copy)]
+pub enum Literal {
+    Equal(SentTerm, SentTerm),
+    Distinct(SentTerm, SentTerm),
+    Linear(Relation, SentRow),
+}
+
+impl SentTerm {
+    // The term, or the place of its first bad byte, counted from its tag.
+    pub fn check(self) -> Result<Term, u8>
+        ensures { λ r. ⌜ TermChecked self r ⌝ }
+    {
+        match self.tag {
+            0 => self.check_bare(),
+            1 => self.check_unary(),
+            2 => self.check_binary(),
+            _ => Err(0),
+        }
+    }
+}
+
+// By tag.
+impl SentTerm {
+    fn check_bare(self) -> Result<Term, u8>
+        requires { ⌜ self .tag ≡ 0 ⌝ }
+        ensures { λ r. ⌜ TermChecked self r ⌝ }
+    {
+        if self.letter != 0 {
+            return Err(1);
+        }
+        let Some(name) = Name::new(self.first) else {
+            return Err(2);
+        };
+        if self.second != 0 {
+            return Err(3);
+        }
+        Ok(Term::Bare(name))
+    }
+
+    fn check_unary(self) -> Result<Term, u8>
+        requires { ⌜ self .tag ≡ 1 ⌝ }
+        ensures { λ r. ⌜ TermChecked self r ⌝ }
+    {
+        let Some(symbol) = Symbol::new(self.letter) else {
+            return Err(1);
+        };
+        let Some(name) = Name::new(self.first) else {
+            return Err(2);
+        };
+        if self.second != 0 {
+            return Err(3);
+        }
+        Ok(Term::Unary(symbol, name))
+    }
+
+    fn check_binary(self) -> Result<Term, u8>
+        requires { ⌜ self .tag ≡ 2 ⌝ }
+        ensures { λ r. ⌜ TermChecked self r ⌝ }
+    {
+        let Some(symbol) = Symbol::new(self.letter) else {
+            return Err(1);
+        };
+        let Some(first) = Name::new(self.first) else {
+            return Err(2);
+        };
+        let Some(second) = Name::new(self.second) else {
+            return Err(3);
+        };
+        Ok(Term::Binary(symbol, first, second))
+    }
+}
+
+// Whether a number is small enough to be sent.
+fn sendable(number: i32) -> bool
+    ensures { λ r. ⌜ Decides r (Sized sent-limit number) ⌝ }
+{
+    -SENT_LIMIT <= number && number <= SENT_LIMIT
+}
+
+// Adds a coefficient to a name's.
+fn add(coefficients: &mut [i64; 32], name: Name, coefficient: i32)
+    requires { ⌜ length (now coefficients) ≡ 32 ⌝ ∗ ⌜ Sized (3 * sent-limit) (getD (now coefficients) (name .index) (pos 0)) ⌝ }
+    ensures { λ _. ⌜ now (coefficients .exit) ≡ set (now (coefficients .entry)) (name .index) (getD (now (coefficients .entry)) (name .index) (pos 0) +ℤ coefficient) ⌝ }
+{
+    let i = name.index() as usize;
+    let sum = coefficients[i] + i64::from(coefficient);
+    coefficients[i] = sum;
+}
+
+impl SentRow {
+    // The row, or the byte of its first bad field in its record.
+    pub fn check(self) -> Result<Row, u8>
+        ensures { λ r. ⌜ RowChecked self r ⌝ }
+    {
+        if !sendable(self.constant) {
+            return Err(1);
+        }
+        let mut coefficients = [0; 32];
+        let mut at: u8 = 5;
+        for pair in self.pairs {
+            let Some(name) = Name::new(pair.name) else {
+                return Err(at);
+            };
+            if !sendable(pair.coefficient) {
+                return Err(at + 1);
+            }
+            add(&mut coefficients, name, pair.coefficient);
+            at += 5;
+        }
+        Ok(Row::within(i64::from(self.constant), coefficients))
+    }
+}
