@@ -1,3 +1,5 @@
 pub mod Adding
 pub mod Indices
+pub mod Integers
 pub mod Sizes
+pub mod Truth

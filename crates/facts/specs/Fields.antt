@@ -1,5 +1,5 @@
 -- The ranges of a literal's fields, and what a literal with good fields stands for.
-use Prim.Native.Nat.{ℕ, _+_, _<_}
+use Prim.Native.Nat.{ℕ, _+_, _≤_, _<_}
 use mathlib.Core.Path.{_≡_}
 use mathlib.Core.Bool.{Bool, true, false, cond}
 use mathlib.Core.List.{List, [], _∷_, _++_}
@@ -91,8 +91,12 @@ Stands (Literal.Linear how s) f = (r : Row) × (f ≡ Fact.Linear how r) × Sums
 
 abbrev pub TermChecked : SentTerm → Result Term ℕ → Type 0
 TermChecked t (Ok a) = ((at : ℕ) → first-bad (term-fields at t) ≡ None) × (sent a ≡ t)
-TermChecked t (Err b) = (at : ℕ) → first-bad (term-fields at t) ≡ Some (at + b)
+TermChecked t (Err b) = (b ≤ 3) × ((at : ℕ) → first-bad (term-fields at t) ≡ Some (at + b))
 
 abbrev pub RowChecked : SentRow → Result Row ℕ → Type 0
 RowChecked s (Ok row) = (first-bad (row-fields s) ≡ None) × Sums s row
 RowChecked s (Err b) = first-bad (row-fields s) ≡ Some b
+
+abbrev pub Sides-checked : SentTerm → SentTerm → Result (Term × Term) ℕ → Type 0
+Sides-checked t u (Ok ab) = (first-bad (term-fields 1 t ++ term-fields 5 u) ≡ None) × (sent (ab .0) ≡ t) × (sent (ab .1) ≡ u)
+Sides-checked t u (Err b) = first-bad (term-fields 1 t ++ term-fields 5 u) ≡ Some b

@@ -3,7 +3,10 @@ ghost use mathlib.Core.Path.{_≡_};
 ghost use Prim.Native.Nat.{ℕ, _+_, _*_, _≤_};
 ghost use lib.IntN.{pos, _+ℤ_};
 ghost use lib.ListN.{length, getD, set};
-ghost use Rattle.facts.specs.Fields.{TermChecked, RowChecked};
+ghost use Rattle.facts.specs.Fields.{TermChecked, RowChecked, Sides-checked, first-bad, term-fields, sent};
+ghost use Rattle.facts.specs.Literals.{Literal-checked};
+ghost use Rattle.std.specs.Results.{Cases};
+ghost use Rattle.std.specs.declared.option.Option.the-variants.{Some, None};
 ghost use Rattle.facts.specs.Sizes.{Sized, sent-limit};
 ghost use Rattle.std.specs.Orderings.{Decides};
 use crate::fact::Fact;
@@ -62,6 +65,17 @@ impl SentTerm {
 
 // By tag.
 impl SentTerm {
+    // The term, or its first bad byte in a record where it begins at a byte.
+    fn check_at(self, at: u8) -> Result<Term, u8>
+        requires { ⌜ at ≤ 8 ⌝ }
+        ensures { λ r. ⌜ Cases r (λ t. (first-bad (term-fields at self) ≡ None) × (sent t ≡ self)) (λ b. first-bad (term-fields at self) ≡ Some b) ⌝ }
+    {
+        match self.check() {
+            Ok(term) => Ok(term),
+            Err(byte) => Err(at + byte),
+        }
+    }
+
     fn check_bare(self) -> Result<Term, u8>
         requires { ⌜ self .tag ≡ 0 ⌝ }
         ensures { λ r. ⌜ TermChecked self r ⌝ }
@@ -149,5 +163,33 @@ impl SentRow {
             at += 5;
         }
         Ok(Row::within(i64::from(self.constant), coefficients))
+    }
+}
+
+// The two terms of a literal, which begin at bytes 1 and 5 of its record.
+fn check_sides(left: SentTerm, right: SentTerm) -> Result<(Term, Term), u8>
+    ensures { λ r. ⌜ Sides-checked left right r ⌝ }
+{
+    let t = left.check_at(1)?;
+    let u = right.check_at(5)?;
+    Ok((t, u))
+}
+
+impl Literal {
+    // The fact that the literal stands for, or the byte of its first bad field in its record.
+    pub fn check(self) -> Result<Fact, u8>
+        ensures { λ r. ⌜ Literal-checked self r ⌝ }
+    {
+        match self {
+            Literal::Equal(left, right) => {
+                let (t, u) = check_sides(left, right)?;
+                Ok(Fact::Equal(t, u))
+            }
+            Literal::Distinct(left, right) => {
+                let (t, u) = check_sides(left, right)?;
+                Ok(Fact::Distinct(t, u))
+            }
+            Literal::Linear(how, row) => Ok(Fact::Linear(how, row.check()?)),
+        }
     }
 }
