@@ -16,7 +16,7 @@ use Rattle.std.specs.declared.option.Option.the-variants.{Some, None}
 use Rattle.facts.specs.declared.literal.SentPair.{SentPair}
 use Rattle.facts.specs.declared.literal.SentRow.{SentRow}
 use Rattle.facts.specs.declared.row.Row.{Row}
-use Rattle.facts.specs.Sizes.{Sized, AllSized, row-limit, sent-limit}
+use Rattle.facts.specs.Sizes.{Sized, All-sized, row-limit, sent-limit}
 use Rattle.facts.specs.Fields.{first-bad, pair-fields, row-fields, added, Sums}
 
 -- what one pair adds to the coefficient of the name with index k
@@ -108,7 +108,7 @@ none-yet pairs =
     }
 
 module _ (s : SentRow) (c : ℤ) (i at : ℕ) (cs : List ℤ) (done : length (s .pairs) ≤ i) (few : i ≤ 4) (h : Adding (s .pairs) i at cs) where
-  pub all-small : AllSized row-limit cs
+  pub all-small : All-sized row-limit cs
   all-small k = omega (arith, h .small k)
 
   pub all-good : first-bad (pair-fields 5 (s .pairs)) ≡ None

@@ -20,7 +20,7 @@ use Rattle.facts.specs.declared.literal.SentRow.{SentRow}
 use Rattle.facts.specs.declared.literal.SentTerm.{SentTerm}
 use Rattle.facts.specs.declared.row.Row.{Row}
 use Rattle.facts.specs.declared.term.Term.{Term}
-use Rattle.facts.specs.Fields.{Field, first-bad, pair-fields, row-fields, term-fields, literal-fields, added, sent, Sums, Stands, Sides-checked, RowChecked}
+use Rattle.facts.specs.Fields.{Field, first-bad, pair-fields, row-fields, term-fields, literal-fields, added, sent, Sums, Stands, Sides-checked, Row-checked}
 use Rattle.facts.specs.Literals.{sent-number, sent-row-number, weighed, Literal-true, Literal-checked}
 use Rattle.facts.specs.Sizes.{sent-limit}
 use Rattle.facts.specs.Valuations.{Valuation, sum-below, term-number, row-number, Compares, True}
@@ -90,7 +90,7 @@ distinct-checked l t u a b e h =
     (h .0, (a, b, refl, h .1, h .2), λ v.
       (λ apart same. apart (term-same v a t (h .1) ∙ same ∙ sym (term-same v b u (h .2))), λ apart same. apart (sym (term-same v a t (h .1)) ∙ same ∙ term-same v b u (h .2))))
 
-pub linear-checked : (l : Literal) (how : Relation) (s : SentRow) (r : Row) → l ≡ Literal.Linear how s → RowChecked s (Ok r) → Literal-checked l (Ok (Fact.Linear how r))
+pub linear-checked : (l : Literal) (how : Relation) (s : SentRow) (r : Row) → l ≡ Literal.Linear how s → Row-checked s (Ok r) → Literal-checked l (Ok (Fact.Linear how r))
 linear-checked l how s r e h =
     let named : Named (s .pairs) = good-names 5 (s .pairs) (past-constant (leb (natAbs (s .constant)) sent-limit) (first-bad (pair-fields 5 (s .pairs))) (h .0)) in
     subst (λ x. Literal-checked x (Ok (Fact.Linear how r))) (sym e)

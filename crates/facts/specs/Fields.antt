@@ -89,13 +89,13 @@ Stands (Literal.Equal t u) f = (a : Term) × (b : Term) × (f ≡ Fact.Equal a b
 Stands (Literal.Distinct t u) f = (a : Term) × (b : Term) × (f ≡ Fact.Distinct a b) × (sent a ≡ t) × (sent b ≡ u)
 Stands (Literal.Linear how s) f = (r : Row) × (f ≡ Fact.Linear how r) × Sums s r
 
-abbrev pub TermChecked : SentTerm → Result Term ℕ → Type 0
-TermChecked t (Ok a) = ((at : ℕ) → first-bad (term-fields at t) ≡ None) × (sent a ≡ t)
-TermChecked t (Err b) = (b ≤ 3) × ((at : ℕ) → first-bad (term-fields at t) ≡ Some (at + b))
+abbrev pub Term-checked : SentTerm → Result Term ℕ → Type 0
+Term-checked t (Ok a) = ((at : ℕ) → first-bad (term-fields at t) ≡ None) × (sent a ≡ t)
+Term-checked t (Err b) = (b ≤ 3) × ((at : ℕ) → first-bad (term-fields at t) ≡ Some (at + b))
 
-abbrev pub RowChecked : SentRow → Result Row ℕ → Type 0
-RowChecked s (Ok row) = (first-bad (row-fields s) ≡ None) × Sums s row
-RowChecked s (Err b) = first-bad (row-fields s) ≡ Some b
+abbrev pub Row-checked : SentRow → Result Row ℕ → Type 0
+Row-checked s (Ok row) = (first-bad (row-fields s) ≡ None) × Sums s row
+Row-checked s (Err b) = first-bad (row-fields s) ≡ Some b
 
 abbrev pub Sides-checked : SentTerm → SentTerm → Result (Term × Term) ℕ → Type 0
 Sides-checked t u (Ok ab) = (first-bad (term-fields 1 t ++ term-fields 5 u) ≡ None) × (sent (ab .0) ≡ t) × (sent (ab .1) ≡ u)

@@ -1,4 +1,5 @@
 pub mod Fields
+pub mod Lines
 pub mod Literals
 pub mod Refusals
 pub mod Sizes

@@ -16,5 +16,5 @@ sent-limit = 1_000_000_000
 abbrev pub Sized : ℕ → ℤ → Type 0
 Sized limit z = natAbs z ≤ limit
 
-abbrev pub AllSized : ℕ → List ℤ → Type 0
-AllSized limit zs = (k : ℕ) → Sized limit (getD zs k (pos 0))
+abbrev pub All-sized : ℕ → List ℤ → Type 0
+All-sized limit zs = (k : ℕ) → Sized limit (getD zs k (pos 0))

@@ -24,3 +24,8 @@ pub use literal::Literal;
 pub use literal::SentPair;
 pub use literal::SentRow;
 pub use literal::SentTerm;
+mod fault;
+pub use fault::Cause;
+pub use fault::CallFault;
+pub use fault::RecordFault;
+pub use fault::RecordFaultDisplay;

@@ -3,7 +3,7 @@ ghost use mathlib.Core.Path.{_≡_};
 ghost use Prim.Native.Nat.{ℕ, _+_, _*_, _≤_};
 ghost use lib.IntN.{pos, _+ℤ_};
 ghost use lib.ListN.{length, getD, set};
-ghost use Rattle.facts.specs.Fields.{TermChecked, RowChecked, Sides-checked, first-bad, term-fields, sent};
+ghost use Rattle.facts.specs.Fields.{Term-checked, Row-checked, Sides-checked, first-bad, term-fields, sent};
 ghost use Rattle.facts.specs.Literals.{Literal-checked};
 ghost use Rattle.std.specs.Results.{Cases};
 ghost use Rattle.std.specs.declared.option.Option.the-variants.{Some, None};
@@ -52,7 +52,7 @@ pub enum Literal {
 impl SentTerm {
     // The term, or the place of its first bad byte, counted from its tag.
     pub fn check(self) -> Result<Term, u8>
-        ensures { λ r. ⌜ TermChecked self r ⌝ }
+        ensures { λ r. ⌜ Term-checked self r ⌝ }
     {
         match self.tag {
             0 => self.check_bare(),
@@ -78,7 +78,7 @@ impl SentTerm {
 
     fn check_bare(self) -> Result<Term, u8>
         requires { ⌜ self .tag ≡ 0 ⌝ }
-        ensures { λ r. ⌜ TermChecked self r ⌝ }
+        ensures { λ r. ⌜ Term-checked self r ⌝ }
     {
         if self.letter != 0 {
             return Err(1);
@@ -94,7 +94,7 @@ impl SentTerm {
 
     fn check_unary(self) -> Result<Term, u8>
         requires { ⌜ self .tag ≡ 1 ⌝ }
-        ensures { λ r. ⌜ TermChecked self r ⌝ }
+        ensures { λ r. ⌜ Term-checked self r ⌝ }
     {
         let Some(symbol) = Symbol::new(self.letter) else {
             return Err(1);
@@ -110,7 +110,7 @@ impl SentTerm {
 
     fn check_binary(self) -> Result<Term, u8>
         requires { ⌜ self .tag ≡ 2 ⌝ }
-        ensures { λ r. ⌜ TermChecked self r ⌝ }
+        ensures { λ r. ⌜ Term-checked self r ⌝ }
     {
         let Some(symbol) = Symbol::new(self.letter) else {
             return Err(1);
@@ -145,7 +145,7 @@ fn add(coefficients: &mut [i64; 32], name: Name, coefficient: i32)
 impl SentRow {
     // The row, or the byte of its first bad field in its record.
     pub fn check(self) -> Result<Row, u8>
-        ensures { λ r. ⌜ RowChecked self r ⌝ }
+        ensures { λ r. ⌜ Row-checked self r ⌝ }
     {
         if !sendable(self.constant) {
             return Err(1);

@@ -1,7 +1,7 @@
 ghost use mathlib.Core.Path.{_≡_};
 ghost use lib.IntN.{pos};
 ghost use lib.ListN.{length};
-ghost use Rattle.facts.specs.Sizes.{Sized, AllSized, row-limit};
+ghost use Rattle.facts.specs.Sizes.{Sized, All-sized, row-limit};
 
 pub mod methods;
 
@@ -12,5 +12,5 @@ pub struct Row {
     coefficients: [i64; 32],
     ghost long: { length coefficients ≡ 32 },
     ghost sized: { Sized row-limit constant },
-    ghost all_sized: { AllSized row-limit coefficients },
+    ghost all_sized: { All-sized row-limit coefficients },
 }

@@ -1,7 +1,7 @@
 ghost use mathlib.Core.Path.{_≡_};
 ghost use lib.IntN.{pos};
 ghost use lib.ListN.{getD};
-ghost use Rattle.facts.specs.Sizes.{Sized, AllSized, row-limit};
+ghost use Rattle.facts.specs.Sizes.{Sized, All-sized, row-limit};
 ghost use Rattle.std.specs.Options.{Cases};
 ghost use Rattle.std.specs.Orderings.{Decides};
 use super::Row;
@@ -18,7 +18,7 @@ fn fits(number: i64) -> bool
 }
 
 fn all_fit(numbers: &[i64; 32]) -> bool
-    ensures { λ r. ⌜ Decides r (AllSized row-limit (now (numbers .entry))) ⌝ }
+    ensures { λ r. ⌜ Decides r (All-sized row-limit (now (numbers .entry))) ⌝ }
 {
     for number in numbers {
         if !fits(*number) {
@@ -31,7 +31,7 @@ fn all_fit(numbers: &[i64; 32]) -> bool
 impl Row {
     // The row with these numbers, or none if one of them is above the limit in size.
     pub fn new(constant: i64, coefficients: [i64; 32]) -> Option<Row>
-        ensures { λ r. ⌜ Cases r (Sized row-limit constant → AllSized row-limit coefficients → ⊥) (λ row. (row .constant ≡ constant) × (row .coefficients ≡ coefficients)) ⌝ }
+        ensures { λ r. ⌜ Cases r (Sized row-limit constant → All-sized row-limit coefficients → ⊥) (λ row. (row .constant ≡ constant) × (row .coefficients ≡ coefficients)) ⌝ }
     {
         if fits(constant) && all_fit(&coefficients) {
             Some(Row { constant, coefficients })
@@ -42,7 +42,7 @@ impl Row {
 
     // The row with these numbers, which are known to be small enough.
     pub(crate) fn within(constant: i64, coefficients: [i64; 32]) -> Row
-        requires { ⌜ Sized row-limit constant ⌝ ∗ ⌜ AllSized row-limit coefficients ⌝ }
+        requires { ⌜ Sized row-limit constant ⌝ ∗ ⌜ All-sized row-limit coefficients ⌝ }
         ensures { λ r. ⌜ (r .constant ≡ constant) × (r .coefficients ≡ coefficients) ⌝ }
     {
         Row { constant, coefficients }
