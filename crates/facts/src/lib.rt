@@ -4,6 +4,7 @@ mod symbol;
 mod term;
 
 pub use name::Name;
+pub use name::methods::NameDisplay;
 pub use name::methods::NameEq;
 pub use symbol::Symbol;
 pub use symbol::methods::SymbolEq;
@@ -18,6 +19,7 @@ pub use fact::Fact;
 pub use fact::Relation;
 pub use fact::Comparison;
 pub use refusal::Refusal;
+pub use refusal::RefusalEq;
 pub use refusal::Layer;
 mod literal;
 pub use literal::Literal;

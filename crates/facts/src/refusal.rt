@@ -1,8 +1,9 @@
 ghost use mathlib.Core.Path.{_≡_};
 ghost use Rattle.facts.specs.Refusals.{refusal-number, refusal-layer};
+ghost use Rattle.std.specs.Orderings.{Decides};
 
 // Why a call is refused. The check that fails first decides, in this order.
-#[derive(Clone, Copy, PartialEq, Debug)]
+#[derive(Clone, Copy, Debug)]
 pub enum Refusal {
     InputTooLong,
     UnknownKind,
@@ -68,14 +69,29 @@ impl Refusal {
     pub fn layer(self) -> Layer
         ensures { λ r. ⌜ r ≡ refusal-layer self ⌝ }
     {
-        match self.number() {
-            1 => Layer::Program,
-            2..=4 => Layer::Reader,
-            5..=8 => Layer::Claim,
-            9 | 10 => Layer::Address,
-            11..=17 => Layer::Theory,
-            18 => Layer::Table,
-            _ => Layer::Sheet,
+        match self {
+            Refusal::InputTooLong => Layer::Program,
+            Refusal::UnknownKind | Refusal::BodyCutShort | Refusal::WrongStage => Layer::Reader,
+            Refusal::AlreadyClosed | Refusal::FieldOutOfRange | Refusal::TooManyCalls | Refusal::LevelLimit => Layer::Claim,
+            Refusal::NothingAtAddress | Refusal::LiteralNotKept => Layer::Address,
+            Refusal::UnknownInference
+            | Refusal::NoCurrentFact
+            | Refusal::NoSuchFact
+            | Refusal::WrongRelation
+            | Refusal::MultiplierNotPositive
+            | Refusal::ConditionFails
+            | Refusal::RowTooLarge => Layer::Theory,
+            Refusal::TableFull => Layer::Table,
+            Refusal::SheetFull => Layer::Sheet,
         }
+    }
+}
+
+// No two refusals have one number.
+pub impl PartialEq<Refusal> for Refusal as RefusalEq {
+    ghost equals = { λ x y r. Decides r (x ≡ y) };
+
+    fn eq(&self, other: &Refusal) -> bool {
+        self.number() == other.number()
     }
 }
