@@ -25,7 +25,7 @@ pub record Field : Type 0 where
   pub byte : ℕ
   pub good : Bool
 
-abbrev field : ℕ → Bool → Field
+abbrev pub field : ℕ → Bool → Field
 field n b = record { byte = n; good = b }
 
 -- the byte of the first field that is out of range
@@ -34,10 +34,10 @@ first-bad [] = None
 first-bad (f ∷ fs) = cond (f .good) (first-bad fs) (Some (f .byte))
 
 -- the highest letter and the highest second name that a tag allows
-abbrev highest-letter : ℕ → ℕ
+abbrev pub highest-letter : ℕ → ℕ
 highest-letter tag = cond (eqb tag 0) 0 15
 
-abbrev highest-second : ℕ → ℕ
+abbrev pub highest-second : ℕ → ℕ
 highest-second tag = cond (eqb tag 2) 31 0
 
 -- the fields of a term that begins at a byte

@@ -1,0 +1,7 @@
+// Readings of the converter: the literals that a stored count states, and reading lists as text.
+mod bound;
+
+pub use bound::Bound;
+pub use bound::BoundDisplay;
+pub use bound::Bounds;
+pub use bound::BoundsDisplay;
