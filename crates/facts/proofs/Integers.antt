@@ -1,11 +1,13 @@
 -- Laws of whole numbers: products over sums, sums over an index.
 use mathlib.Core.Path.{_≡_, refl, sym, ap, _∙_, subst}
 use mathlib.Core.Logic.{_⊎_, ⊎-elim}
-use Prim.Native.Nat.{ℕ, zero, suc, _+_, _≤_, _<_}
+use Prim.Native.Nat.{ℕ, zero, suc, _+_, _*_, _≤_, _<_}
 use native.Mathlib.Omega.{arith}
 use lib.Dec.{eqb}
 use mathlib.Core.Bool.{cond, true, false}
-use lib.IntN.{ℤ, pos, negℤ, sucℤ, predℤ, _+ℤ_, _-ℤ_, _*ℤ_, ℤ-ind, +ℤ-idl, +ℤ-idr, +ℤ-one, -ℤ-one, sucℤ-+ℤ, predℤ-+ℤ, sucℤ-*ℤ, predℤ-*ℤ, zero-*ℤ, *ℤ-zero, *ℤ-comm}
+use borrow.Author.Differences.{abs-is}
+use lib.IntN.{ℤ, pos, negℤ, natAbs, sucℤ, predℤ, _+ℤ_, _-ℤ_, _*ℤ_, ℤ-ind, +ℤ-idl, +ℤ-idr, +ℤ-one, -ℤ-one, sucℤ-+ℤ, predℤ-+ℤ, sucℤ-*ℤ, predℤ-*ℤ, zero-*ℤ, *ℤ-zero, *ℤ-comm}
+use lib.Signed.{_≤ℤ_, _<ℤ_}
 use Rattle.std.proofs.shelf.Signed.{ints}
 use Rattle.std.proofs.shelf.Ways.{eqb-tells}
 use Rattle.facts.specs.Valuations.{sum-below}
@@ -85,3 +87,18 @@ sum-one (suc n) m f below h =
     (λ e.
       ap (λ x. sum-below n f +ℤ x) (h n (e .1)) ∙ +ℤ-idr (sum-below n f) ∙ sum-one n m f (omega (arith, e .1)) h)
     (eqb-tells n m)
+
+pub one-times : (a : ℤ) → pos 1 *ℤ a ≡ a
+one-times a = plus-one-times (pos 0) a ∙ ap (λ x. x +ℤ a) (zero-*ℤ a) ∙ +ℤ-idl a
+
+pub neg-times : (a c : ℤ) → negℤ a *ℤ c ≡ negℤ (a *ℤ c)
+neg-times a c =
+    ap (λ x. x *ℤ c) (sym (+ℤ-idl (negℤ a))) ∙ minus-times (pos 0) a c ∙ ap (λ x. x -ℤ (a *ℤ c)) (zero-*ℤ c) ∙ +ℤ-idl (negℤ (a *ℤ c))
+
+-- a product with a number that is not negative keeps the order
+pub times-mono : (q : ℕ) (u w : ℤ) → u ≤ℤ w → (u *ℤ pos q) ≤ℤ (w *ℤ pos q)
+times-mono q u w h =
+    let d : ℕ = natAbs (w -ℤ u) in
+    let split : w ≡ u +ℤ pos (natAbs (w -ℤ u)) = omega (arith, ints, abs-is (w -ℤ u)) in
+    let whole : w *ℤ pos q ≡ (u *ℤ pos q) +ℤ pos (natAbs (w -ℤ u) * q) = ap (λ x. x *ℤ pos q) split ∙ add-times u (pos (natAbs (w -ℤ u))) (pos q) in
+    omega (arith, ints)

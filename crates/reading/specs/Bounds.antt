@@ -22,7 +22,7 @@ one-name how constant n z =
 -- n - c >= 0, or c - n > 0
 abbrev pub bound-literal : Bound → Literal
 bound-literal (Bound.AtLeast n c) = one-name Relation.NonNegative (negℤ (pos c)) (n .index) (pos 1)
-bound-literal (Bound.Below n c) = one-name Relation.Positive (pos c) (n .index) (negsuc 0)
+bound-literal (Bound.LessThan n c) = one-name Relation.Positive (pos c) (n .index) (negsuc 0)
 
 abbrev pub bounds-list : Bounds → List Bound
 bounds-list (Bounds.One a) = a ∷ []
@@ -33,7 +33,7 @@ name-text n = codes "n" ++ decimal (n .index)
 
 abbrev pub bound-text : Bound → List ℕ
 bound-text (Bound.AtLeast n c) = name-text n ++ (codes " - " ++ (decimal c ++ codes " >= 0"))
-bound-text (Bound.Below n c) = decimal c ++ (codes " - " ++ (name-text n ++ codes " > 0"))
+bound-text (Bound.LessThan n c) = decimal c ++ (codes " - " ++ (name-text n ++ codes " > 0"))
 
 abbrev pub bounds-text : Bounds → List ℕ
 bounds-text (Bounds.One a) = bound-text a

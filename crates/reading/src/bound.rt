@@ -16,7 +16,7 @@ pub enum Bound {
     // n - c >= 0
     AtLeast(Name, u16),
     // c - n > 0
-    Below(Name, u16),
+    LessThan(Name, u16),
 }
 
 // What one reading states: its literals, in order.
@@ -33,7 +33,7 @@ impl Bound {
     {
         match self {
             Bound::AtLeast(name, limit) => one_name(Relation::NonNegative, -i32::from(limit), name.index(), 1),
-            Bound::Below(name, limit) => one_name(Relation::Positive, i32::from(limit), name.index(), -1),
+            Bound::LessThan(name, limit) => one_name(Relation::Positive, i32::from(limit), name.index(), -1),
         }
     }
 }
@@ -68,7 +68,7 @@ pub impl fmt::Display for Bound as BoundDisplay {
     fn fmt<W: fmt::Write>(&self, f: &mut fmt::Formatter<W>) -> fmt::Result {
         match self {
             Bound::AtLeast(name, limit) => write!(f, "{name} - {limit} >= 0"),
-            Bound::Below(name, limit) => write!(f, "{limit} - {name} > 0"),
+            Bound::LessThan(name, limit) => write!(f, "{limit} - {name} > 0"),
         }
     }
 }

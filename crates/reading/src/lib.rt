@@ -5,3 +5,6 @@ pub use bound::Bound;
 pub use bound::BoundDisplay;
 pub use bound::Bounds;
 pub use bound::BoundsDisplay;
+mod count;
+pub use count::HIGHEST_COUNT;
+pub use count::SentReading;
