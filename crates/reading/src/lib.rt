@@ -8,3 +8,5 @@ pub use bound::BoundsDisplay;
 mod count;
 pub use count::HIGHEST_COUNT;
 pub use count::SentReading;
+mod list;
+pub use list::LONGEST_INPUT;
