@@ -16,6 +16,7 @@ use Rattle.reading.specs.Bounds.{bounds-list, bounds-text}
 use Rattle.reading.specs.Converter.{Reading-checked}
 use Rattle.reading.specs.declared.bound.Bounds.{Bounds}
 use Rattle.reading.specs.declared.count.SentReading.{SentReading}
+use Rattle.reading.specs.declared.list.Reading.{Reading}
 
 -- the longest input
 abbrev pub longest-input : ℕ
@@ -39,8 +40,8 @@ pub data Refused : List ℕ → Cause → Type 0 where
   fields : (s : SentReading) {rest : List ℕ} {c : Cause} → Reading-checked s (Err c) → Refused (record-bytes s ++ rest) c
 
 -- the record at the front of some bytes
-abbrev pub Record-read : List ℕ → Result (SentReading × Bounds) Cause → Type 0
-Record-read bytes (Ok sb) = (bytes ≡ record-bytes (sb .0) ++ drop 4 bytes) × Reading-checked (sb .0) (Ok (sb .1))
+abbrev pub Record-read : List ℕ → Result Reading Cause → Type 0
+Record-read bytes (Ok r) = (bytes ≡ record-bytes (r .sent) ++ drop 4 bytes) × Reading-checked (r .sent) (Ok (r .bounds))
 Record-read bytes (Err c) = Refused bytes c
 
 -- the line of a reading, of a list that was read to its end, and of a refused record

@@ -10,3 +10,4 @@ pub use count::HIGHEST_COUNT;
 pub use count::SentReading;
 mod list;
 pub use list::LONGEST_INPUT;
+pub use list::report;
