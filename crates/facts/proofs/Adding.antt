@@ -33,12 +33,12 @@ pub written : (zs : List ℤ) (n : ℕ) (z : ℤ) (k : ℕ) → n < length zs �
 written zs n z k within =
     ⊎-elim
     (λ h.
-      subst (λ m. getD (set zs n (getD zs n (pos 0) +ℤ z)) m (pos 0) ≡ getD zs m (pos 0) +ℤ z) (h .1) (getD-set-same zs n _ (pos 0) within)
-      ∙ ap (λ b. getD zs k (pos 0) +ℤ cond b z (pos 0)) (sym (h .0)))
+    subst (λ m. getD (set zs n (getD zs n (pos 0) +ℤ z)) m (pos 0) ≡ getD zs m (pos 0) +ℤ z) (h .1) (getD-set-same zs n _ (pos 0) within)
+    ∙ ap (λ b. getD zs k (pos 0) +ℤ cond b z (pos 0)) (sym (h .0)))
     (λ h.
-      getD-set-other zs n k _ (pos 0) (λ e. h .1 (sym e))
-      ∙ sym (+ℤ-idr (getD zs k (pos 0)))
-      ∙ ap (λ b. getD zs k (pos 0) +ℤ cond b z (pos 0)) (sym (h .0)))
+    getD-set-other zs n k _ (pos 0) (λ e. h .1 (sym e))
+    ∙ sym (+ℤ-idr (getD zs k (pos 0)))
+    ∙ ap (λ b. getD zs k (pos 0) +ℤ cond b z (pos 0)) (sym (h .0)))
     (eqb-tells n k)
 
 size-add : (a b : ℤ) → natAbs (a +ℤ b) ≤ natAbs a + natAbs b

@@ -23,11 +23,11 @@ add-times a b c =
     ℤ-ind (λ x. (x +ℤ b) *ℤ c ≡ (x *ℤ c) +ℤ (b *ℤ c))
     (ap (λ x. x *ℤ c) (+ℤ-idl b) ∙ sym (+ℤ-idl (b *ℤ c)) ∙ ap (λ x. x +ℤ (b *ℤ c)) (sym (zero-*ℤ c)))
     (λ n h.
-      let moved : (pos n +ℤ pos 1) +ℤ b ≡ (pos n +ℤ b) +ℤ pos 1 = omega (arith, ints) in
-      ap (λ x. x *ℤ c) moved ∙ plus-one-times (pos n +ℤ b) c ∙ ap (λ x. x +ℤ c) h ∙ omega (arith, ints) ∙ ap (λ x. x +ℤ (b *ℤ c)) (sym (plus-one-times (pos n) c)))
+    let moved : (pos n +ℤ pos 1) +ℤ b ≡ (pos n +ℤ b) +ℤ pos 1 = omega (arith, ints) in
+    ap (λ x. x *ℤ c) moved ∙ plus-one-times (pos n +ℤ b) c ∙ ap (λ x. x +ℤ c) h ∙ omega (arith, ints) ∙ ap (λ x. x +ℤ (b *ℤ c)) (sym (plus-one-times (pos n) c)))
     (λ n h.
-      let moved : (negℤ (pos n) +ℤ negℤ (pos 1)) +ℤ b ≡ (negℤ (pos n) +ℤ b) +ℤ negℤ (pos 1) = omega (arith, ints) in
-      ap (λ x. x *ℤ c) moved ∙ minus-one-times (negℤ (pos n) +ℤ b) c ∙ ap (λ x. x -ℤ c) h ∙ omega (arith, ints) ∙ ap (λ x. x +ℤ (b *ℤ c)) (sym (minus-one-times (negℤ (pos n)) c)))
+    let moved : (negℤ (pos n) +ℤ negℤ (pos 1)) +ℤ b ≡ (negℤ (pos n) +ℤ b) +ℤ negℤ (pos 1) = omega (arith, ints) in
+    ap (λ x. x *ℤ c) moved ∙ minus-one-times (negℤ (pos n) +ℤ b) c ∙ ap (λ x. x -ℤ c) h ∙ omega (arith, ints) ∙ ap (λ x. x +ℤ (b *ℤ c)) (sym (minus-one-times (negℤ (pos n)) c)))
     a
 
 pub times-add : (a b c : ℤ) → a *ℤ (b +ℤ c) ≡ (a *ℤ b) +ℤ (a *ℤ c)
@@ -46,10 +46,10 @@ times-assoc a b c =
     ℤ-ind (λ x. (x *ℤ b) *ℤ c ≡ x *ℤ (b *ℤ c))
     (ap (λ x. x *ℤ c) (zero-*ℤ b) ∙ zero-*ℤ c ∙ sym (zero-*ℤ (b *ℤ c)))
     (λ n h.
-      ap (λ x. x *ℤ c) (plus-one-times (pos n) b) ∙ add-times (pos n *ℤ b) b c ∙ ap (λ x. x +ℤ (b *ℤ c)) h ∙ sym (plus-one-times (pos n) (b *ℤ c)))
+    ap (λ x. x *ℤ c) (plus-one-times (pos n) b) ∙ add-times (pos n *ℤ b) b c ∙ ap (λ x. x +ℤ (b *ℤ c)) h ∙ sym (plus-one-times (pos n) (b *ℤ c)))
     (λ n h.
-      let step : ((negℤ (pos n) *ℤ b) -ℤ b) *ℤ c ≡ ((negℤ (pos n) *ℤ b) *ℤ c) -ℤ (b *ℤ c) = minus-times (negℤ (pos n) *ℤ b) b c in
-      ap (λ x. x *ℤ c) (minus-one-times (negℤ (pos n)) b) ∙ step ∙ ap (λ x. x -ℤ (b *ℤ c)) h ∙ sym (minus-one-times (negℤ (pos n)) (b *ℤ c)))
+    let step : ((negℤ (pos n) *ℤ b) -ℤ b) *ℤ c ≡ ((negℤ (pos n) *ℤ b) *ℤ c) -ℤ (b *ℤ c) = minus-times (negℤ (pos n) *ℤ b) b c in
+    ap (λ x. x *ℤ c) (minus-one-times (negℤ (pos n)) b) ∙ step ∙ ap (λ x. x -ℤ (b *ℤ c)) h ∙ sym (minus-one-times (negℤ (pos n)) (b *ℤ c)))
     a
 
 -- ---- sums over an index
@@ -83,9 +83,9 @@ sum-one zero m f below h = absurd (omega arith)
 sum-one (suc n) m f below h =
     ⊎-elim
     (λ e.
-      ap (λ x. x +ℤ f n) (sum-zero n f (λ k less. h k (λ same. omega (arith, e .1)))) ∙ +ℤ-idl (f n) ∙ ap f (e .1))
+    ap (λ x. x +ℤ f n) (sum-zero n f (λ k less. h k (λ same. omega (arith, e .1)))) ∙ +ℤ-idl (f n) ∙ ap f (e .1))
     (λ e.
-      ap (λ x. sum-below n f +ℤ x) (h n (e .1)) ∙ +ℤ-idr (sum-below n f) ∙ sum-one n m f (omega (arith, e .1)) h)
+    ap (λ x. sum-below n f +ℤ x) (h n (e .1)) ∙ +ℤ-idr (sum-below n f) ∙ sum-one n m f (omega (arith, e .1)) h)
     (eqb-tells n m)
 
 pub one-times : (a : ℤ) → pos 1 *ℤ a ≡ a

@@ -67,7 +67,7 @@ module _ (v : Valuation) where
   row-same s r named sums =
       ap (λ z. (z *ℤ pos (v .denominator)) +ℤ sum-below 32 (λ k. getD (r .coefficients) k (pos 0) *ℤ v .numerator k)) (sums .constant)
       ∙ ap (λ z. (s .constant *ℤ pos (v .denominator)) +ℤ z)
-        (sum-same 32 _ (λ k. added k (s .pairs) *ℤ v .numerator k) (λ k below. ap (λ z. z *ℤ v .numerator k) (sums .coefficient k below)) ∙ added-sum (s .pairs) named)
+      (sum-same 32 _ (λ k. added k (s .pairs) *ℤ v .numerator k) (λ k below. ap (λ z. z *ℤ v .numerator k) (sums .coefficient k below)) ∙ added-sum (s .pairs) named)
 
   pub term-same : (a : Term) (t : SentTerm) → sent a ≡ t → term-number v a ≡ sent-number v t
   term-same a t e = whole a ∙ ap (sent-number v) e
@@ -80,19 +80,28 @@ module _ (v : Valuation) where
 -- what a check owes where the fields are good
 pub equal-checked : (l : Literal) (t u : SentTerm) (a b : Term) → l ≡ Literal.Equal t u → Sides-checked t u (Ok (a, b)) → Literal-checked l (Ok (Fact.Equal a b))
 equal-checked l t u a b e h =
-    subst (λ x. Literal-checked x (Ok (Fact.Equal a b))) (sym e)
-    (h .0, (a, b, refl, h .1, h .2), λ v.
-      (λ same. sym (term-same v a t (h .1)) ∙ same ∙ term-same v b u (h .2), λ same. term-same v a t (h .1) ∙ same ∙ sym (term-same v b u (h .2))))
+    subst (λ x. Literal-checked x (Ok (Fact.Equal a b))) (sym e) (
+      h .0,
+      (a, b, refl, h .1, h .2),
+      λ v.
+          (λ same. sym (term-same v a t (h .1)) ∙ same ∙ term-same v b u (h .2), λ same. term-same v a t (h .1) ∙ same ∙ sym (term-same v b u (h .2))),
+    )
 
 pub distinct-checked : (l : Literal) (t u : SentTerm) (a b : Term) → l ≡ Literal.Distinct t u → Sides-checked t u (Ok (a, b)) → Literal-checked l (Ok (Fact.Distinct a b))
 distinct-checked l t u a b e h =
-    subst (λ x. Literal-checked x (Ok (Fact.Distinct a b))) (sym e)
-    (h .0, (a, b, refl, h .1, h .2), λ v.
-      (λ apart same. apart (term-same v a t (h .1) ∙ same ∙ sym (term-same v b u (h .2))), λ apart same. apart (sym (term-same v a t (h .1)) ∙ same ∙ term-same v b u (h .2))))
+    subst (λ x. Literal-checked x (Ok (Fact.Distinct a b))) (sym e) (
+      h .0,
+      (a, b, refl, h .1, h .2),
+      λ v.
+          (λ apart same. apart (term-same v a t (h .1) ∙ same ∙ sym (term-same v b u (h .2))), λ apart same. apart (sym (term-same v a t (h .1)) ∙ same ∙ term-same v b u (h .2))),
+    )
 
 pub linear-checked : (l : Literal) (how : Relation) (s : SentRow) (r : Row) → l ≡ Literal.Linear how s → Row-checked s (Ok r) → Literal-checked l (Ok (Fact.Linear how r))
 linear-checked l how s r e h =
     let named : Named (s .pairs) = good-names 5 (s .pairs) (past-constant (leb (natAbs (s .constant)) sent-limit) (first-bad (pair-fields 5 (s .pairs))) (h .0)) in
-    subst (λ x. Literal-checked x (Ok (Fact.Linear how r))) (sym e)
-    (h .0, (r, refl, h .1), λ v.
-      (subst (Compares how) (row-same v s r named (h .1)), subst (Compares how) (sym (row-same v s r named (h .1)))))
+    subst (λ x. Literal-checked x (Ok (Fact.Linear how r))) (sym e) (
+      h .0,
+      (r, refl, h .1),
+      λ v.
+          (subst (Compares how) (row-same v s r named (h .1)), subst (Compares how) (sym (row-same v s r named (h .1)))),
+    )

@@ -42,6 +42,9 @@ pub impl fmt::Display for RecordFault as RecordFaultDisplay {
         let address = self.call.address;
         let theory = self.call.cause.theory;
         let detail = self.call.cause.detail;
-        write!(f, "REFUSED {number} offset {offset} place {place} depth {depth} side {address} theory {theory} detail {detail}")
+        write!(
+            f,
+            "REFUSED {number} offset {offset} place {place} depth {depth} side {address} theory {theory} detail {detail}"
+        )
     }
 }

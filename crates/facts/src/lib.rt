@@ -10,24 +10,32 @@ pub use symbol::Symbol;
 pub use symbol::methods::SymbolEq;
 pub use term::Term;
 pub use term::TermPartialEq;
+
 mod row;
+
 pub use row::Row;
 pub use row::methods::ROW_LIMIT;
+
 mod fact;
 mod refusal;
+
+pub use fact::Comparison;
 pub use fact::Fact;
 pub use fact::Relation;
-pub use fact::Comparison;
+pub use refusal::Layer;
 pub use refusal::Refusal;
 pub use refusal::RefusalEq;
-pub use refusal::Layer;
+
 mod literal;
+
 pub use literal::Literal;
 pub use literal::SentPair;
 pub use literal::SentRow;
 pub use literal::SentTerm;
+
 mod fault;
-pub use fault::Cause;
+
 pub use fault::CallFault;
+pub use fault::Cause;
 pub use fault::RecordFault;
 pub use fault::RecordFaultDisplay;

@@ -72,7 +72,10 @@ impl Refusal {
         match self {
             Refusal::InputTooLong => Layer::Program,
             Refusal::UnknownKind | Refusal::BodyCutShort | Refusal::WrongStage => Layer::Reader,
-            Refusal::AlreadyClosed | Refusal::FieldOutOfRange | Refusal::TooManyCalls | Refusal::LevelLimit => Layer::Claim,
+            Refusal::AlreadyClosed
+            | Refusal::FieldOutOfRange
+            | Refusal::TooManyCalls
+            | Refusal::LevelLimit => Layer::Claim,
             Refusal::NothingAtAddress | Refusal::LiteralNotKept => Layer::Address,
             Refusal::UnknownInference
             | Refusal::NoCurrentFact

@@ -60,17 +60,18 @@ module _ (v : Valuation) (n : Name) (c : ℕ) where
 
   -- below the highest count
   two-exact : c < highest-count → (All-true v (bounds-list (Bounds.Two (Bound.AtLeast n c) (Bound.LessThan n (c + 1)))) → Stores v (n .index) c) × (Stores v (n .index) c → All-true v (bounds-list (Bounds.Two (Bound.AtLeast n c) (Bound.LessThan n (c + 1)))))
-  two-exact below =
-      (λ h.
+  two-exact below = (
+    λ h.
         record {
           whole = pos c;
           floor = floor-between value (v .denominator) (pos c) (at-least v n c .0 (h .0)) (up .0 (h .1 .0));
           clipped = omega (arith, ints, clamps);
         },
-      λ s.
+    λ s.
         let same : s .whole ≡ pos c = omega (arith, ints, clamps, s .clipped) in
         let low : (pos c *ℤ pos (v .denominator)) ≤ℤ value = subst (λ z. (z *ℤ pos (v .denominator)) ≤ℤ value) same (s .floor .not-above) in
-        (at-least v n c .1 low, (up .1 (by-ltZ value (pos (c + 1) *ℤ pos (v .denominator)) (λ fine. fine) (λ over. absurd (too-much s same over))), tt)))
+        (at-least v n c .1 low, (up .1 (by-ltZ value (pos (c + 1) *ℤ pos (v .denominator)) (λ fine. fine) (λ over. absurd (too-much s same over))), tt)),
+  )
     where
       up : (Literal-true v (bound-literal (Bound.LessThan n (c + 1))) → value <ℤ (pos (c + 1) *ℤ pos (v .denominator))) × (value <ℤ (pos (c + 1) *ℤ pos (v .denominator)) → Literal-true v (bound-literal (Bound.LessThan n (c + 1))))
       up = less-than v n (c + 1)
@@ -80,15 +81,16 @@ module _ (v : Valuation) (n : Name) (c : ℕ) where
 
   -- at the highest count
   one-exact : c ≡ highest-count → pos 0 ≤ℤ value → (All-true v (bounds-list (Bounds.One (Bound.AtLeast n c))) → Stores v (n .index) c) × (Stores v (n .index) c → All-true v (bounds-list (Bounds.One (Bound.AtLeast n c))))
-  one-exact high biased =
-      (λ h.
+  one-exact high biased = (
+    λ h.
         let w = floor-of value (v .denominator) (v .positive) biased in
         let reached : pos c ≤ℤ w .0 = w .1 .largest (pos c) (at-least v n c .0 (h .0)) in
         record { whole = w .0; floor = w .1; clipped = omega (arith, ints, clamps) },
-      λ s.
+    λ s.
         let reached : pos c ≤ℤ s .whole = omega (arith, ints, clamps, s .clipped) in
         let fewer : (pos c *ℤ pos (v .denominator)) ≤ℤ (s .whole *ℤ pos (v .denominator)) = times-mono (v .denominator) (pos c) (s .whole) reached in
-        (at-least v n c .1 (let under = s .floor .not-above in omega (arith, ints)), tt))
+        (at-least v n c .1 (let under = s .floor .not-above in omega (arith, ints)), tt),
+  )
 
 size-neg : (c : ℕ) → natAbs (negℤ (pos c)) ≡ c
 size-neg zero = refl

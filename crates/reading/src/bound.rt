@@ -32,8 +32,18 @@ impl Bound {
         ensures { λ r. ⌜ r ≡ bound-literal self ⌝ }
     {
         match self {
-            Bound::AtLeast(name, limit) => one_name(Relation::NonNegative, -i32::from(limit), name.index(), 1),
-            Bound::LessThan(name, limit) => one_name(Relation::Positive, i32::from(limit), name.index(), -1),
+            Bound::AtLeast(name, limit) => one_name(
+                Relation::NonNegative,
+                -i32::from(limit),
+                name.index(),
+                1,
+            ),
+            Bound::LessThan(name, limit) => one_name(
+                Relation::Positive,
+                i32::from(limit),
+                name.index(),
+                -1,
+            ),
         }
     }
 }
@@ -42,7 +52,10 @@ impl Bound {
 fn one_name(how: Relation, constant: i32, name: u8, coefficient: i32) -> Literal
     ensures { λ r. ⌜ r ≡ one-name how constant name coefficient ⌝ }
 {
-    let none = SentPair { name: 0, coefficient: 0 };
+    let none = SentPair {
+        name: 0,
+        coefficient: 0,
+    };
     let row = SentRow {
         constant,
         pairs: [SentPair { name, coefficient }, none, none, none],

@@ -35,7 +35,11 @@ impl SentReading {
 fn bad_field(byte: u8) -> Cause
     ensures { λ r. ⌜ r ≡ out-of-range byte ⌝ }
 {
-    Cause { refusal: Refusal::FieldOutOfRange, detail: byte, theory: 0 }
+    Cause {
+        refusal: Refusal::FieldOutOfRange,
+        detail: byte,
+        theory: 0,
+    }
 }
 
 // The literals by the reading rule.

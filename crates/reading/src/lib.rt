@@ -5,9 +5,13 @@ pub use bound::Bound;
 pub use bound::BoundDisplay;
 pub use bound::Bounds;
 pub use bound::BoundsDisplay;
+
 mod count;
+
 pub use count::HIGHEST_COUNT;
 pub use count::SentReading;
+
 mod list;
+
 pub use list::LONGEST_INPUT;
 pub use list::report;

@@ -31,7 +31,11 @@ struct Reading {
 fn refused(refusal: Refusal) -> Cause
     ensures { λ r. ⌜ r ≡ because refusal ⌝ }
 {
-    Cause { refusal, detail: 0, theory: 0 }
+    Cause {
+        refusal,
+        detail: 0,
+        theory: 0,
+    }
 }
 
 // The reading at the front of the input, with its literals.
@@ -59,7 +63,12 @@ fn read_record(rest: &[u8]) -> Result<Reading, Cause>
 fn fault_at(cause: Cause, place: u32, offset: usize) -> RecordFault
     ensures { λ r. ⌜ r ≡ fault-at cause place offset ⌝ }
 {
-    let call = CallFault { cause, address: 0, place, depth: 0 };
+    let call = CallFault {
+        cause,
+        address: 0,
+        place,
+        depth: 0,
+    };
     RecordFault { call, offset }
 }
 
@@ -93,7 +102,11 @@ pub fn report(heap: Global, input: &[u8]) -> Result<String, AllocError>
 {
     let mut out = String::new(heap);
     if input.len() > LONGEST_INPUT {
-        put_fault(&mut out, heap, fault_at(refused(Refusal::InputTooLong), 0, 0))?;
+        put_fault(
+            &mut out,
+            heap,
+            fault_at(refused(Refusal::InputTooLong), 0, 0),
+        )?;
         return Ok(out);
     }
     let mut offset = 0;

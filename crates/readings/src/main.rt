@@ -7,7 +7,9 @@ use std::io::Read;
 // One byte more than the longest input is enough to tell that an input is longer.
 fn run(rt: &LibcRuntime) -> Result<(), AnyError> {
     let mut input = Vec::new(rt.alloc());
-    rt.stdin().take(LONGEST_INPUT as u64 + 1).read_to_end(&mut input)?;
+    rt.stdin()
+        .take(LONGEST_INPUT as u64 + 1)
+        .read_to_end(&mut input)?;
     rt.print(report(rt.alloc(), input.as_slice())?)?;
     Ok(())
 }

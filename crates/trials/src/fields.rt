@@ -11,7 +11,12 @@ use facts::SentTerm;
 use std::test::*;
 
 fn term(tag: u8, letter: u8, first: u8, second: u8) -> SentTerm {
-    SentTerm { tag, letter, first, second }
+    SentTerm {
+        tag,
+        letter,
+        first,
+        second,
+    }
 }
 
 fn pair(name: u8, coefficient: i32) -> SentPair {
@@ -106,7 +111,10 @@ fn the_coefficients_of_a_name_add() -> Result<(), Fail> {
     let most = 1_000_000_000;
     check_eq(coefficient(row(0, pair(3, 5), pair(3, 7)), 3), Some(12))?;
     check_eq(coefficient(row(0, pair(3, 5), pair(3, -5)), 3), Some(0))?;
-    check_eq(coefficient(row(0, pair(3, most), pair(3, most)), 3), Some(2_000_000_000))?;
+    check_eq(
+        coefficient(row(0, pair(3, most), pair(3, most)), 3),
+        Some(2_000_000_000),
+    )?;
     check_eq(coefficient(row(0, pair(3, 5), pair(4, 7)), 4), Some(7))?;
     check_eq(coefficient(row(0, pair(3, 5), pair(4, 7)), 5), Some(0))
 }

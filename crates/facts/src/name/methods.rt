@@ -14,7 +14,11 @@ impl Name {
     pub fn new(index: u8) -> Option<Name>
         ensures { λ r. ⌜ Cases r (32 ≤ index) (λ n. n .index ≡ index) ⌝ }
     {
-        if index < 32 { Some(Name { index }) } else { None }
+        if index < 32 {
+            Some(Name { index })
+        } else {
+            None
+        }
     }
 
     pub fn index(self) -> u8

@@ -34,7 +34,10 @@ impl Row {
         ensures { λ r. ⌜ Cases r (Sized row-limit constant → All-sized row-limit coefficients → ⊥) (λ row. (row .constant ≡ constant) × (row .coefficients ≡ coefficients)) ⌝ }
     {
         if fits(constant) && all_fit(&coefficients) {
-            Some(Row { constant, coefficients })
+            Some(Row {
+                constant,
+                coefficients,
+            })
         } else {
             None
         }
@@ -45,7 +48,10 @@ impl Row {
         requires { ⌜ Sized row-limit constant ⌝ ∗ ⌜ All-sized row-limit coefficients ⌝ }
         ensures { λ r. ⌜ (r .constant ≡ constant) × (r .coefficients ≡ coefficients) ⌝ }
     {
-        Row { constant, coefficients }
+        Row {
+            constant,
+            coefficients,
+        }
     }
 
     pub fn constant(&self) -> i64

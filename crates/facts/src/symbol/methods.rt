@@ -9,7 +9,11 @@ impl Symbol {
     pub fn new(index: u8) -> Option<Symbol>
         ensures { λ r. ⌜ Cases r (16 ≤ index) (λ s. s .index ≡ index) ⌝ }
     {
-        if index < 16 { Some(Symbol { index }) } else { None }
+        if index < 16 {
+            Some(Symbol { index })
+        } else {
+            None
+        }
     }
 
     pub fn index(self) -> u8

@@ -18,12 +18,13 @@ returns-in-Err c =
 pub loop-offset-again : need.loop-offset-again
 loop-offset-again c =
     let l = c .loop-offset in
-    let r = c .in-Ok .ensures tt in
-    (omega arith,
-    omega arith,
-    within (c .args .input .now) (l .offset) (l .readings) (l .literals) _ (l .inv .4) _ (c .in-Ok .reading .sent) (take-rest (c .args .input .now) (l .offset)) (r .0) (l .inv .2),
-    (let few : c .count-literals .result ≤ 2 = few-bounds (c .in-Ok .reading .bounds) (c .count-literals .result) (c .count-literals .ensures) in omega arith),
-    one-more _ _ _ _ _ (l .inv .4) _ _ _ _ _ (take-rest (c .args .input .now) (l .offset)) (r .0) (r .1) (c .count-literals .ensures) (c .in-Continue-put-reading .ensures tt))
+    let r = c .in-Ok .ensures tt in (
+      omega arith,
+      omega arith,
+      within (c .args .input .now) (l .offset) (l .readings) (l .literals) _ (l .inv .4) _ (c .in-Ok .reading .sent) (take-rest (c .args .input .now) (l .offset)) (r .0) (l .inv .2),
+      (let few : c .count-literals .result ≤ 2 = few-bounds (c .in-Ok .reading .bounds) (c .count-literals .result) (c .count-literals .ensures) in omega arith),
+      one-more _ _ _ _ _ (l .inv .4) _ _ _ _ _ (take-rest (c .args .input .now) (l .offset)) (r .0) (r .1) (c .count-literals .ensures) (c .in-Continue-put-reading .ensures tt),
+    )
 
 pub returns : need.returns
 returns c =

@@ -21,12 +21,14 @@ returns-then-not-sendable-2 c =
     ∙ bad-coefficient (c .args .self .pairs) (c .loop-pair .pair-index) (c .loop-pair .at) (c .loop-pair .coefficients) (search needs) (c .loop-pair .inv .1) (omega (arith, c .in-Some .ensures tt)) (search needs)
 
 pub loop-pair-again : need.loop-pair-again
-loop-pair-again c =
-    (refl,
-    one-more (c .args .self .pairs) (c .loop-pair .pair-index) (c .loop-pair .at) (c .loop-pair .coefficients) (search needs) (c .loop-pair .inv .1) (c .in-Some .name .index) _ _ (c .in-Some .name .named) (c .in-Some .ensures tt) (omega (arith, ints)) (search needs) (c .add .ensures))
+loop-pair-again c = (
+  refl,
+  one-more (c .args .self .pairs) (c .loop-pair .pair-index) (c .loop-pair .at) (c .loop-pair .coefficients) (search needs) (c .loop-pair .inv .1) (c .in-Some .name .index) _ _ (c .in-Some .name .named) (c .in-Some .ensures tt) (omega (arith, ints)) (search needs) (c .add .ensures),
+)
 
 pub returns : need.returns
-returns c =
-    (constant-good (c .args .self) (search needs)
-    ∙ all-good (c .args .self) (c .args .self .constant) (c .loop-pair .pair-index) (c .loop-pair .at) (c .loop-pair .coefficients) (search needs) (search needs) (c .loop-pair .inv .1),
-    all-added (c .args .self) (c .args .self .constant) (c .loop-pair .pair-index) (c .loop-pair .at) (c .loop-pair .coefficients) (search needs) (search needs) (c .loop-pair .inv .1) (c .within .result) (omega (arith, ints)) (c .within .ensures .1))
+returns c = (
+  constant-good (c .args .self) (search needs)
+      ∙ all-good (c .args .self) (c .args .self .constant) (c .loop-pair .pair-index) (c .loop-pair .at) (c .loop-pair .coefficients) (search needs) (search needs) (c .loop-pair .inv .1),
+  all-added (c .args .self) (c .args .self .constant) (c .loop-pair .pair-index) (c .loop-pair .at) (c .loop-pair .coefficients) (search needs) (search needs) (c .loop-pair .inv .1) (c .within .result) (omega (arith, ints)) (c .within .ensures .1),
+)
