@@ -1,0 +1,3 @@
+// Arithmetic on rows over whole numbers: floor division, divisors, the cut.
+mod division;
+mod gcd;
