@@ -1,2 +1,3 @@
+pub mod Content
 pub mod Division
 pub mod Gcd
