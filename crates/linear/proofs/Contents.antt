@@ -2,7 +2,7 @@
 use mathlib.Core.Path.{_≡_, refl, sym, ap, _∙_, subst}
 use mathlib.Core.List.{List}
 use mathlib.Core.Logic.{⊎-elim}
-use Prim.Native.Nat.{ℕ, _+_, _*_, _≤_, _<_}
+use Prim.Native.Nat.{ℕ, zero, suc, _+_, _*_, _≤_, _<_}
 use native.Mathlib.Nat.{mul-zero}
 use native.Mathlib.Omega.{arith}
 use borrow.Author.Count.{below-none, below-more}
@@ -10,6 +10,7 @@ use lib.IntN.{ℤ, pos, negsuc, natAbs}
 use lib.ListN.{length, getD}
 use Rattle.std.proofs.shelf.Lists.{getD-past}
 use Rattle.std.proofs.shelf.Ways.{leb-tells}
+use Rattle.facts.specs.Sizes.{All-sized}
 use Rattle.linear.specs.Gcd.{Divides, Greatest}
 use Rattle.linear.specs.Content.{Content, size-at}
 use Rattle.linear.proofs.Divisors.{divides-zero, divides-through, divides-both, divisor-positive, divisor-most}
@@ -76,3 +77,16 @@ pub zero-content : (zs : List ℤ) (g : ℕ) → Content zs g → ((k : ℕ) →
 zero-content zs g h all =
     let (n, f) = h .most 0 (λ k. subst (λ z. Divides 0 (natAbs z)) (sym (all k)) (divides-zero 0)) in
     f ∙ mul-zero n
+
+-- it is no larger than all of them
+pub content-within : (limit : ℕ) (zs : List ℤ) (g : ℕ) → Content zs g → All-sized limit zs → g ≤ limit
+content-within limit zs g h small =
+    ⊎-elim (λ less. less .1) (λ more. absurd (above (more .1))) (leb-tells g limit)
+  where
+    zero-at : limit < g → (k n : ℕ) → size-at zs k ≡ n → n ≡ 0
+    zero-at more k zero e = refl
+    zero-at more k (suc n) e = absurd (omega (arith, small k, divisor-most g (size-at zs k) (h .each k) (omega (arith, e))))
+    above : limit < g → ⊥
+    above more =
+        let none : g ≡ 0 = zero-content zs g h (λ k. size-zero (getD zs k (pos 0)) (zero-at more k (size-at zs k) refl)) in
+        omega arith
