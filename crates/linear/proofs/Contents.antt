@@ -5,7 +5,7 @@ use mathlib.Core.Logic.{⊎-elim}
 use Prim.Native.Nat.{ℕ, zero, suc, _+_, _*_, _≤_, _<_}
 use native.Mathlib.Nat.{mul-zero}
 use native.Mathlib.Omega.{arith}
-use borrow.Author.Count.{below-none, below-more}
+use borrow.Author.Count.{below-more}
 use lib.IntN.{ℤ, pos, negsuc, natAbs}
 use lib.ListN.{length, getD}
 use Rattle.std.proofs.shelf.Lists.{getD-past}
@@ -26,10 +26,10 @@ content-none zs =
 
 pub content-more : (n : ℕ) (zs : List ℤ) (g h : ℕ) → Content-below n zs g → Greatest g (size-at zs n) h → Content-below (n + 1) zs h
 content-more n zs g h before last =
-    record
-      { each = below-more (λ k. Divides h (size-at zs k)) n (λ k below. divides-through h g (size-at zs k) (last .left) (before .each k below)) (last .right)
-      ; most = λ d all. last .most d (before .most d (λ k below. all k (omega arith))) (all n (omega arith))
-      }
+    record {
+      each = below-more (λ k. Divides h (size-at zs k)) n (λ k below. divides-through h g (size-at zs k) (last .left) (before .each k below)) (last .right);
+      most = λ d all. last .most d (before .most d (λ k below. all k (omega arith))) (all n (omega arith));
+    }
 
 -- past the end there is only 0, which each number divides
 past-divides : (d n : ℕ) (zs : List ℤ) → length zs ≤ n → ((k : ℕ) → k < n → Divides d (size-at zs k)) → (k : ℕ) → Divides d (size-at zs k)
@@ -41,10 +41,10 @@ past-divides d n zs end below k =
 
 pub content-all : (n : ℕ) (zs : List ℤ) (g : ℕ) → length zs ≤ n → Content-below n zs g → Content zs g
 content-all n zs g end h =
-    record
-      { each = past-divides g n zs end (h .each)
-      ; most = λ d all. h .most d (λ k _. all k)
-      }
+    record {
+      each = past-divides g n zs end (h .each);
+      most = λ d all. h .most d (λ k _. all k);
+    }
 
 -- the laws say which number it is
 pub content-unique : (zs : List ℤ) (g h : ℕ) → Content zs g → Content zs h → g ≡ h
@@ -86,6 +86,7 @@ content-within limit zs g h small =
     zero-at : limit < g → (k n : ℕ) → size-at zs k ≡ n → n ≡ 0
     zero-at more k zero e = refl
     zero-at more k (suc n) e = absurd (omega (arith, small k, divisor-most g (size-at zs k) (h .each k) (omega (arith, e))))
+
     above : limit < g → ⊥
     above more =
         let none : g ≡ 0 = zero-content zs g h (λ k. size-zero (getD zs k (pos 0)) (zero-at more k (size-at zs k) refl)) in

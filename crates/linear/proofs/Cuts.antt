@@ -1,9 +1,9 @@
 -- The cut of a row: what it is, and that it keeps what holds at whole values.
-use mathlib.Core.Path.{_≡_, refl, sym, ap, _∙_, subst}
+use mathlib.Core.Path.{_≡_, sym, ap, _∙_, subst}
 use mathlib.Core.List.{List}
-use Prim.Native.Nat.{ℕ, _≤_, _<_}
+use Prim.Native.Nat.{ℕ, _≤_}
 use native.Mathlib.Omega.{arith}
-use lib.IntN.{ℤ, pos, natAbs, _+ℤ_, _*ℤ_, *ℤ-comm}
+use lib.IntN.{ℤ, pos, _+ℤ_, _*ℤ_, *ℤ-comm}
 use lib.ListN.{getD}
 use lib.Signed.{_≤ℤ_}
 use Rattle.std.proofs.shelf.Signed.{ints}
@@ -28,8 +28,8 @@ weighed-cut : (g : ℕ) (row r : Row) → Cut-by g row r → (v : Valuation) →
 weighed-cut g row r h v =
     sum-same 32 _ (λ k. pos g *ℤ (getD (r .coefficients) k (pos 0) *ℤ v .numerator k))
     (λ k _.
-      ap (λ z. z *ℤ v .numerator k) (sym (h .exact k) ∙ *ℤ-comm (getD (r .coefficients) k (pos 0)) (pos g))
-      ∙ times-assoc (pos g) (getD (r .coefficients) k (pos 0)) (v .numerator k))
+    ap (λ z. z *ℤ v .numerator k) (sym (h .exact k) ∙ *ℤ-comm (getD (r .coefficients) k (pos 0)) (pos g))
+    ∙ times-assoc (pos g) (getD (r .coefficients) k (pos 0)) (v .numerator k))
     ∙ sum-times 32 (pos g) (λ k. getD (r .coefficients) k (pos 0) *ℤ v .numerator k)
 
 whole-number : (v : Valuation) → v .denominator ≡ 1 → (r : Row) → row-number v r ≡ r .constant +ℤ weighed v r
@@ -63,14 +63,14 @@ module _ (row : Row) (g : ℕ) (content : Content (row .coefficients) g) (positi
 
   divided-out : (r : Row) → r .constant ≡ q → r .coefficients ≡ qs → Cut-by g row r
   divided-out r same all =
-      record
-        { content = content
-        ; positive = positive
-        ; exact = λ k.
+      record {
+        content = content;
+        positive = positive;
+        exact = λ k.
             ap (λ (zs : List ℤ). getD zs k (pos 0) *ℤ pos g) all
-            ∙ quotient-exact (getD (row .coefficients) k (pos 0)) g (getD qs k (pos 0)) (each k .0) (content .each k) (each k .1)
-        ; rounded = (rest, subst (λ z. Floored (row .constant) (pos g) z rest) (sym same) floor)
-        }
+            ∙ quotient-exact (getD (row .coefficients) k (pos 0)) g (getD qs k (pos 0)) (each k .0) (content .each k) (each k .1);
+        rounded = (rest, subst (λ z. Floored (row .constant) (pos g) z rest) (sym same) floor);
+      }
 
   -- the numbers fit a row, so one is made
   cut-made : (o : Option Row) → Cases o (Sized row-limit q → All-sized row-limit qs → ⊥) (λ r. (r .constant ≡ q) × (r .coefficients ≡ qs)) → Cut row o

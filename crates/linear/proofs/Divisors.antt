@@ -1,6 +1,6 @@
 -- Divisors: what is divided with a sum and a difference, and the greatest of the common ones.
-use mathlib.Core.Path.{_≡_, refl, sym, ap, _∙_, subst}
-use Prim.Native.Nat.{ℕ, zero, suc, _+_, _-_, _*_, _/_, _%_, _≤_, _<_}
+use mathlib.Core.Path.{_≡_, sym, ap, _∙_, subst}
+use Prim.Native.Nat.{ℕ, zero, suc, _+_, _-_, _*_, _/_, _%_, _≤_}
 use native.Mathlib.Nat.{zero-mul, mul-zero, one-mul, suc-mul, mul-assoc, mul-comm, add-mul, mul-sub, div-add-mod'}
 use native.Mathlib.Omega.{arith}
 use Rattle.linear.specs.Gcd.{Divides, Greatest}
@@ -44,11 +44,11 @@ divides-both (suc m) (suc n) h i = omega (arith, divisor-most (suc m) (suc n) h 
 
 pub greatest-of-zero : (a b : ℕ) → b ≡ 0 → Greatest a b a
 greatest-of-zero a b e =
-    record
-      { left = divides-self a
-      ; right = subst (λ x. Divides a x) (sym e) (divides-zero a)
-      ; most = λ d h _. h
-      }
+    record {
+      left = divides-self a;
+      right = subst (λ x. Divides a x) (sym e) (divides-zero a);
+      most = λ d h _. h;
+    }
 
 rest-divides : (d a b : ℕ) → Divides d a → Divides d b → Divides d (a % b)
 rest-divides d a b h i =
@@ -61,11 +61,11 @@ rest-divided d a b h i =
 
 pub greatest-of-rest : (a b g : ℕ) → Greatest b (a % b) g → Greatest a b g
 greatest-of-rest a b g h =
-    record
-      { left = rest-divided g a b (h .left) (h .right)
-      ; right = h .left
-      ; most = λ d i j. h .most d j (rest-divides d a b i j)
-      }
+    record {
+      left = rest-divided g a b (h .left) (h .right);
+      right = h .left;
+      most = λ d i j. h .most d j (rest-divides d a b i j);
+    }
 
 -- the laws say which number it is
 pub greatest-unique : (a b g h : ℕ) → Greatest a b g → Greatest a b h → g ≡ h

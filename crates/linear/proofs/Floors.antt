@@ -1,5 +1,5 @@
 -- Division that rounds down.
-use mathlib.Core.Path.{_≡_, refl, sym, ap, _∙_, subst}
+use mathlib.Core.Path.{_≡_, sym, ap, _∙_, subst}
 use Prim.Native.Nat.{ℕ, zero, suc, _+_, _-_, _*_, _/_, _%_, _≤_, _<_}
 use native.Mathlib.Nat.{zero-mul, suc-mul, mul-le-mul-left, div-add-mod', mod-lt}
 use native.Mathlib.Omega.{arith}
@@ -14,20 +14,20 @@ use Rattle.linear.specs.Gcd.{Divides}
 euclid-floored : (a b : ℤ) → pos 1 ≤ℤ b → Floored a b (divEuclid a b) (remEuclid a b)
 euclid-floored (pos a) (pos b) h =
     let below : a % b < b = mod-lt a (omega (arith, ints)) in
-    record
-      { whole = ap pos (sym (div-add-mod' a b))
-      ; low = omega (arith, ints)
-      ; high = omega (arith, ints)
-      }
+    record {
+      whole = ap pos (sym (div-add-mod' a b));
+      low = omega (arith, ints);
+      high = omega (arith, ints);
+    }
 euclid-floored (negsuc a) (pos b) h =
     let below : a % b < b = mod-lt a (omega (arith, ints)) in
     let e : a / b * b + a % b ≡ a = div-add-mod' a b in
     let f : suc (a / b) * b ≡ a / b * b + b = suc-mul (a / b) b in
-    record
-      { whole = omega (arith, ints)
-      ; low = omega (arith, ints)
-      ; high = omega (arith, ints)
-      }
+    record {
+      whole = omega (arith, ints);
+      low = omega (arith, ints);
+      high = omega (arith, ints);
+    }
 euclid-floored (pos a) (negsuc b) h = absurd (omega (arith, ints))
 euclid-floored (negsuc a) (negsuc b) h = absurd (omega (arith, ints))
 

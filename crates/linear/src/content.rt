@@ -6,8 +6,8 @@ pub(crate) fn content(coefficients: &[i64; 32]) -> u64
     ensures { λ r. ⌜ Content (now (coefficients .entry)) r ⌝ }
 {
     let mut divisor = 0;
-    for coefficient in coefficients {
-        divisor = gcd(divisor, coefficient.unsigned_abs());
+    for i in 0..32 {
+        divisor = gcd(divisor, coefficients[i].unsigned_abs());
     }
     divisor
 }
