@@ -60,6 +60,13 @@ impl Row {
         self.constant
     }
 
+    // The coefficients, by the names' indices.
+    pub fn coefficients(&self) -> &[i64; 32]
+        ensures { λ r. ⌜ now r ≡ now (self .entry) .coefficients ⌝ }
+    {
+        &self.coefficients
+    }
+
     // The coefficient of a name; 0 if the row does not have it.
     pub fn coefficient(&self, name: Name) -> i64
         ensures { λ r. ⌜ r ≡ getD (now (self .entry) .coefficients) (name .index) (pos 0) ⌝ }

@@ -1,0 +1,5 @@
+pub mod Contents
+pub mod Cuts
+pub mod Divisors
+pub mod Floors
+pub mod Quotients

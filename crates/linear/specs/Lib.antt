@@ -1,0 +1,4 @@
+pub mod Content
+pub mod Cut
+pub mod Division
+pub mod Gcd
