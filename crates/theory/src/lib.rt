@@ -3,6 +3,7 @@ mod factor;
 mod inference;
 mod interface;
 mod logic;
+mod table;
 
 pub use factor::Factor;
 pub use factor::methods::FACTOR_LIMIT;
@@ -11,3 +12,4 @@ pub use inference::Outcome;
 pub use inference::Position;
 pub use interface::Theory;
 pub use logic::Logic;
+pub use table::Table;
