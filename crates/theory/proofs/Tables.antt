@@ -7,9 +7,10 @@ use native.Mathlib.Omega.{arith}
 use Rattle.std.proofs.shelf.Ways.{leb-tells}
 use lib.ListN.{length, take, getD, set}
 use Rattle.std.proofs.shelf.Lists.{length-take, length-take-le, length-reverse, reverse-append, take-more, take-more-set, take-take, take-all, length-push}
+use Rattle.std.specs.declared.option.Option.{Option}
 use Rattle.std.specs.declared.option.Option.the-variants.{None}
 use Rattle.facts.specs.declared.fact.Fact.{Fact}
-use Rattle.theory.specs.Places.{Place, opened, dropped, dropped-to, most-facts, most-marks}
+use Rattle.theory.specs.Places.{Place, add, opened, dropped, dropped-to, most-facts, most-marks}
 use Rattle.theory.specs.Tables.{table-facts, table-marks, table-place, Row-written, Level-opened, Level-dropped}
 use Rattle.theory.specs.declared.table.Table.{Table}
 
@@ -61,3 +62,7 @@ level-dropped t u some rows used marks levels =
       rows = rows;
       place = ap (λ fs. record { facts = fs; marks = table-marks u; current = None }) fewer ∙ ap (dropped-to (table-facts t)) (sym newest);
     }
+
+pub written-place : (t u : Table) (f : Fact) (current : Option Fact) → Row-written t f u → table-place u current ≡ add f (table-place t current)
+written-place t u f current h =
+    ap (λ fs. record { facts = fs; marks = table-marks u; current = current }) (h .facts) ∙ ap (λ ms. record { facts = table-facts t ++ (f ∷ []); marks = ms; current = current }) (h .marks)

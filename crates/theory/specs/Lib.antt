@@ -1,3 +1,4 @@
 pub mod Places
 pub mod Rules
+pub mod Singles
 pub mod Tables

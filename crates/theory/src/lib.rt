@@ -3,6 +3,7 @@ mod factor;
 mod inference;
 mod interface;
 mod logic;
+mod single;
 mod table;
 
 pub use factor::Factor;
@@ -12,4 +13,6 @@ pub use inference::Outcome;
 pub use inference::Position;
 pub use interface::Theory;
 pub use logic::Logic;
+pub use single::Single;
+pub use single::SingleTheory;
 pub use table::Table;
