@@ -3,6 +3,7 @@ mod factor;
 mod inference;
 mod interface;
 mod logic;
+mod pair;
 mod single;
 mod table;
 
@@ -13,6 +14,8 @@ pub use inference::Outcome;
 pub use inference::Position;
 pub use interface::Theory;
 pub use logic::Logic;
+pub use pair::Pair;
+pub use pair::PairTheory;
 pub use single::Single;
 pub use single::SingleTheory;
 pub use table::Table;

@@ -29,13 +29,21 @@ pub struct Single<L> {
 fn nothing_here() -> Cause
     ensures { λ r. ⌜ r ≡ nothing-here ⌝ }
 {
-    Cause { refusal: Refusal::NothingAtAddress, detail: 0, theory: 0 }
+    Cause {
+        refusal: Refusal::NothingAtAddress,
+        detail: 0,
+        theory: 0,
+    }
 }
 
 fn no_room(theory: u8) -> Cause
     ensures { λ r. ⌜ r ≡ no-room theory ⌝ }
 {
-    Cause { refusal: Refusal::TableFull, detail: 0, theory }
+    Cause {
+        refusal: Refusal::TableFull,
+        detail: 0,
+        theory,
+    }
 }
 
 // What rows that are not in use hold.
@@ -54,19 +62,31 @@ pub impl<L: Logic> Theory for Single<L> as SingleTheory {
     ghost places = { single-places };
 
     fn fresh() -> Single<L> {
-        Single { logic: L::new(), table: Table::new(filler()), current: None }
+        Single {
+            logic: L::new(),
+            table: Table::new(filler()),
+            current: None,
+        }
     }
 
     fn assume_refusal(&self, fact: &Fact) -> Option<Refusal> {
         if !self.logic.keeps(fact) {
             return Some(Refusal::LiteralNotKept);
         }
-        if self.table.is_full() { Some(Refusal::TableFull) } else { None }
+        if self.table.is_full() {
+            Some(Refusal::TableFull)
+        } else {
+            None
+        }
     }
 
     fn tell_refusal(&self, comparison: Comparison) -> Option<Refusal> {
         match self.logic.told(comparison) {
-            Some(_) => if self.table.is_full() { Some(Refusal::TableFull) } else { None },
+            Some(_) => if self.table.is_full() {
+                Some(Refusal::TableFull)
+            } else {
+                None
+            },
             None => None,
         }
     }
@@ -75,21 +95,30 @@ pub impl<L: Logic> Theory for Single<L> as SingleTheory {
         if !self.logic.keeps(fact) {
             return Err(Refusal::LiteralNotKept);
         }
-        if self.table.push(fact) { Ok(()) } else { Err(Refusal::TableFull) }
+        if self.table.push(fact) {
+            Ok(())
+        } else {
+            Err(Refusal::TableFull)
+        }
     }
 
     fn tell(&mut self, comparison: Comparison) -> Result<(), Refusal> {
         let Some(fact) = self.logic.told(comparison) else {
             return Ok(());
         };
-        if self.table.push(&fact) { Ok(()) } else { Err(Refusal::TableFull) }
+        if self.table.push(&fact) {
+            Ok(())
+        } else {
+            Err(Refusal::TableFull)
+        }
     }
 
     fn infer(&mut self, address: usize, inference: Inference) -> Outcome {
         if address != 0 {
             return Outcome::Refused(nothing_here());
         }
-        let outcome = self.logic.outcome(inference, self.table.facts(), &self.current);
+        let outcome = self.logic
+            .outcome(inference, self.table.facts(), &self.current);
         match outcome {
             Outcome::Current(fact) => {
                 self.current = Some(fact);
@@ -105,11 +134,19 @@ pub impl<L: Logic> Theory for Single<L> as SingleTheory {
     }
 
     fn open_refusal(&self) -> Option<Refusal> {
-        if self.table.levels() >= MOST_MARKS { Some(Refusal::LevelLimit) } else { None }
+        if self.table.levels() >= MOST_MARKS {
+            Some(Refusal::LevelLimit)
+        } else {
+            None
+        }
     }
 
     fn drop_refusal(&self) -> Option<Refusal> {
-        if self.table.levels() == 0 { Some(Refusal::LevelLimit) } else { None }
+        if self.table.levels() == 0 {
+            Some(Refusal::LevelLimit)
+        } else {
+            None
+        }
     }
 
     fn push_level(&mut self) -> Result<(), Refusal> {

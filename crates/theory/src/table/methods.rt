@@ -11,6 +11,7 @@ use facts::Fact;
 
 // How many facts an address holds at most, and how many levels above the first.
 pub const MOST_FACTS: usize = 64;
+
 pub const MOST_MARKS: usize = 8;
 
 impl Table {
@@ -19,7 +20,12 @@ impl Table {
         ensures facts { λ r. ⌜ table-facts r ≡ [] ⌝ }
         ensures marks { λ r. ⌜ table-marks r ≡ [] ⌝ }
     {
-        Table { rows: [filler; 64], used: 0, marks: [0; 8], levels: 0 }
+        Table {
+            rows: [filler; 64],
+            used: 0,
+            marks: [0; 8],
+            levels: 0,
+        }
     }
 
     // The facts of all levels, the oldest first.
