@@ -3,6 +3,7 @@ ghost use mathlib.Core.List.{[]};
 ghost use lib.Dec.{leb};
 ghost use Prim.Native.Nat.{_≤_, _<_};
 ghost use lib.ListN.{length};
+ghost use Rattle.std.specs.declared.option.Option.the-variants.{None};
 ghost use Rattle.theory.specs.Rules.{nothing-here, no-room};
 ghost use Rattle.theory.specs.Singles.{alone, single-place, single-places};
 use crate::inference::Inference;
@@ -52,6 +53,15 @@ fn filler() -> Fact {
         return unreachable();
     };
     Fact::Equal(Term::Bare(name), Term::Bare(name))
+}
+
+impl<L> Single<L> {
+    // Forgets the current fact.
+    fn clear(&mut self)
+        ensures { λ _. ⌜ now (self .exit) ≡ record { logic = now (self .entry) .logic; table = now (self .entry) .table; current = None } ⌝ }
+    {
+        self.current = None;
+    }
 }
 
 pub impl<L: Logic> Theory for Single<L> as SingleTheory {
@@ -153,7 +163,7 @@ pub impl<L: Logic> Theory for Single<L> as SingleTheory {
         if !self.table.open_level() {
             return Err(Refusal::LevelLimit);
         }
-        self.current = None;
+        self.clear();
         Ok(())
     }
 
@@ -161,7 +171,7 @@ pub impl<L: Logic> Theory for Single<L> as SingleTheory {
         if !self.table.drop_level() {
             return Err(Refusal::LevelLimit);
         }
-        self.current = None;
+        self.clear();
         Ok(())
     }
 }

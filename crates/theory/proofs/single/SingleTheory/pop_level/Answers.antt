@@ -16,4 +16,4 @@ returns-then-not-drop-level g c =
 pub returns : need.returns
 returns g c =
     let h = c .if-not-drop-level .ensures tt in
-    (dropping-taken (single-place (c .args .self .now)) (h .some), mapped-zero dropped (single-place (c .args .self .now)) _ (h .place))
+    (dropping-taken (single-place (c .args .self .now)) (h .some), mapped-zero dropped (single-place (c .args .self .now)) _ (ap single-place (c .clear .ensures) ∙ h .place))

@@ -16,4 +16,4 @@ returns-then-not-open-level g c =
 pub returns : need.returns
 returns g c =
     let h = c .if-not-open-level .ensures tt in
-    (opening-taken (single-place (c .args .self .now)) (h .few), mapped-zero opened (single-place (c .args .self .now)) _ (h .place))
+    (opening-taken (single-place (c .args .self .now)) (h .few), mapped-zero opened (single-place (c .args .self .now)) _ (ap single-place (c .clear .ensures) ∙ h .place))
