@@ -16,7 +16,7 @@ use Rattle.facts.specs.declared.fact.Comparison.{Comparison}
 use Rattle.facts.specs.declared.fact.Fact.{Fact}
 use Rattle.facts.specs.declared.refusal.Refusal.{Refusal}
 use Rattle.theory.specs.Pairs.{beside}
-use Rattle.theory.specs.Places.{Place, Places, most-facts, most-marks}
+use Rattle.theory.specs.Places.{Place, Places, most-facts, most-below}
 use Rattle.theory.specs.Rules.{Rules, Book, Wanted, literal-wanted, telling-wanted, kept-by, told-by, with-wanted, Unwanted, Wanted-somewhere, Room, Full, Took, Answered, Literal-answer, Telling-answer, Opening-answer, Dropping-answer}
 
 -- ---- where an address of a side lies
@@ -140,7 +140,7 @@ module _ (ps qs : Places) where
   opening-right h r (Opening-answer.limit a p stands many) = Opening-answer.limit (2 * a + 1) p (at-odd ps qs a ∙ stands) many
   opening-right (Opening-answer.taken h) r (Opening-answer.taken k) = Opening-answer.taken (λ a p. test a p (eqb (a % 2) 0))
     where
-      test : (a : ℕ) (p : Place) (b : Bool) → cond b (ps (a / 2)) (qs ((a - 1) / 2)) ≡ Some p → length (p .marks) < most-marks
+      test : (a : ℕ) (p : Place) (b : Bool) → cond b (ps (a / 2)) (qs ((a - 1) / 2)) ≡ Some p → length (p .below) < most-below
       test a p true = h (a / 2) p
       test a p false = k ((a - 1) / 2) p
 
@@ -151,7 +151,7 @@ module _ (ps qs : Places) where
   dropping-right h r (Dropping-answer.limit a p stands none) = Dropping-answer.limit (2 * a + 1) p (at-odd ps qs a ∙ stands) none
   dropping-right (Dropping-answer.taken h) r (Dropping-answer.taken k) = Dropping-answer.taken (λ a p. test a p (eqb (a % 2) 0))
     where
-      test : (a : ℕ) (p : Place) (b : Bool) → cond b (ps (a / 2)) (qs ((a - 1) / 2)) ≡ Some p → 0 < length (p .marks)
+      test : (a : ℕ) (p : Place) (b : Bool) → cond b (ps (a / 2)) (qs ((a - 1) / 2)) ≡ Some p → 0 < length (p .below)
       test a p true = h (a / 2) p
       test a p false = k ((a - 1) / 2) p
 

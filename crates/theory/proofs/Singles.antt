@@ -6,15 +6,19 @@ use Prim.Native.Nat.{ℕ, _≤_, _<_}
 use native.Mathlib.Omega.{arith}
 use lib.Dec.{eqb}
 use lib.ListN.{length}
+use Rattle.std.proofs.shelf.Ways.{leb-tells}
 use Rattle.std.specs.Options.{mapped}
 use Rattle.std.specs.declared.option.Option.{Option}
 use Rattle.std.specs.declared.option.Option.the-variants.{Some, None}
 use Rattle.facts.specs.declared.fact.Comparison.{Comparison}
 use Rattle.facts.specs.declared.fact.Fact.{Fact}
+use Rattle.facts.specs.declared.fault.Cause.{Cause}
 use Rattle.facts.specs.declared.refusal.Refusal.{Refusal}
-use Rattle.theory.specs.Places.{Place, Places, add, most-facts, most-marks}
-use Rattle.theory.specs.Rules.{Rules, Wanted, literal-wanted, telling-wanted, kept-by, told-by, with-wanted, Unwanted, Room, Full, Took, Literal-answer, Telling-answer, Opening-answer, Dropping-answer}
+use Rattle.theory.specs.Places.{Place, Places, add, most-facts, most-below}
+use Rattle.theory.specs.Rules.{Rules, outcome-at, within-room, no-room, changed, Changed-at, Wanted, literal-wanted, telling-wanted, kept-by, told-by, with-wanted, Unwanted, Room, Full, Took, Literal-answer, Telling-answer, Opening-answer, Dropping-answer}
 use Rattle.theory.specs.Singles.{at-zero, alone}
+use Rattle.theory.specs.declared.inference.Inference.{Inference}
+use Rattle.theory.specs.declared.inference.Outcome.{Outcome}
 use Rattle.theory.specs.declared.single.Single.{Single}
 use Rattle.theory.specs.declared.table.Table.{Table}
 
@@ -116,14 +120,35 @@ module _ (r : Rules) (p : Place) (k : Comparison) where
   telling-none e = (Telling-answer.taken (room-none p (telling-wanted (alone r) k) (told-only None e)), took-none p (telling-wanted (alone r) k) (told-only None e))
 
 module _ (p : Place) where
-  pub opening-limit : most-marks ≤ length (p .marks) → Opening-answer (at-zero (Some p)) (Some Refusal.LevelLimit)
+  pub opening-limit : most-below ≤ length (p .below) → Opening-answer (at-zero (Some p)) (Some Refusal.LevelLimit)
   opening-limit many = Opening-answer.limit 0 p refl many
 
-  pub opening-taken : length (p .marks) < most-marks → Opening-answer (at-zero (Some p)) None
-  opening-taken few = Opening-answer.taken (λ a q stands. subst (λ x. length (x .marks) < most-marks) (at-zero-is p q a stands) few)
+  pub opening-taken : length (p .below) < most-below → Opening-answer (at-zero (Some p)) None
+  opening-taken few = Opening-answer.taken (λ a q stands. subst (λ x. length (x .below) < most-below) (at-zero-is p q a stands) few)
 
-  pub dropping-limit : length (p .marks) ≡ 0 → Dropping-answer (at-zero (Some p)) (Some Refusal.LevelLimit)
+  pub dropping-limit : length (p .below) ≡ 0 → Dropping-answer (at-zero (Some p)) (Some Refusal.LevelLimit)
   dropping-limit none = Dropping-answer.limit 0 p refl none
 
-  pub dropping-taken : 0 < length (p .marks) → Dropping-answer (at-zero (Some p)) None
-  dropping-taken some = Dropping-answer.taken (λ a q stands. subst (λ x. 0 < length (x .marks)) (at-zero-is p q a stands) some)
+  pub dropping-taken : 0 < length (p .below) → Dropping-answer (at-zero (Some p)) None
+  dropping-taken some = Dropping-answer.taken (λ a q stands. subst (λ x. 0 < length (x .below)) (at-zero-is p q a stands) some)
+
+-- ---- a push at a full table
+
+pub refused-push : (r : Rules) (p : Place) (a : ℕ) (i : Inference) (f : Fact) (cause : Cause) → a ≡ 0 → Outcome.Pushed f ≡ r .outcome i (p .facts) (p .current) → most-facts ≤ length (p .facts) → cause ≡ no-room (r .number) → Outcome.Refused cause ≡ outcome-at (alone r) (at-zero (Some p)) a i
+refused-push r p a i f cause zero pushed many is =
+    ap Outcome.Refused is
+    ∙ ⊎-elim
+    (λ h. ap (λ b. cond b (Outcome.Refused (no-room (r .number))) (Outcome.Pushed f)) (sym (h .0)))
+    (λ h. absurd (omega (arith, h .1)))
+    (leb-tells most-facts (length (p .facts)))
+    ∙ ap (within-room (r .number) (p .facts)) pushed
+    ∙ ap (λ b. outcome-at (alone r) (at-zero (Some p)) b i) (sym zero)
+
+-- a refusal leaves every place as it was
+pub refused-at : (c : Cause) (ps qs : Places) (a : ℕ) → ((b : ℕ) → qs b ≡ ps b) → Changed-at a (Outcome.Refused c) ps qs
+refused-at c ps qs a same b = same b ∙ split (eqb b a) (ps b)
+  where
+    split : (t : Bool) (o : Option Place) → o ≡ cond t (mapped (changed (Outcome.Refused c)) o) o
+    split true None = refl
+    split true (Some p) = refl
+    split false o = refl

@@ -1,3 +1,4 @@
+pub mod Marks
 pub mod Pairs
 pub mod Places
 pub mod Rules

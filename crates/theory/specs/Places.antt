@@ -1,18 +1,16 @@
 -- What stands at an address.
-use Prim.Native.Nat.{ℕ, _≤_, _<_}
-use mathlib.Core.Path.{_≡_}
+use Prim.Native.Nat.{ℕ}
 use mathlib.Core.List.{List, [], _∷_, _++_}
-use lib.ListN.{length, take}
 use Rattle.std.specs.declared.option.Option.{Option}
 use Rattle.std.specs.declared.option.Option.the-variants.{Some, None}
 use Rattle.facts.specs.declared.fact.Fact.{Fact}
 
--- Levels of facts and at most one current fact. The facts are listed oldest first through all
--- levels; `marks` has, for each level above the first, the newest first, how many facts stand below
--- it. So the newest level is what comes after the first mark.
+-- Levels of facts and at most one current fact. `facts` are those of all levels, the oldest first;
+-- `below` has, for each level above the first, the newest first, the facts that stand below it. So
+-- a level's own facts are those that come after the ones below it.
 pub record Place : Type 0 where
   pub facts : List Fact
-  pub marks : List ℕ
+  pub below : List (List Fact)
   pub current : Option Fact
 
 -- nothing, or a place, at each address
@@ -21,30 +19,30 @@ Places = ℕ → Option Place
 
 -- one empty level, and no current fact
 abbrev pub empty : Place
-empty = record { facts = []; marks = []; current = None }
+empty = record { facts = []; below = []; current = None }
 
 -- a fact more on the newest level
 abbrev pub add : Fact → Place → Place
-add f p = record { facts = p .facts ++ (f ∷ []); marks = p .marks; current = p .current }
+add f p = record { facts = p .facts ++ (f ∷ []); below = p .below; current = p .current }
 
 abbrev pub with-current : Fact → Place → Place
-with-current f p = record { facts = p .facts; marks = p .marks; current = Some f }
+with-current f p = record { facts = p .facts; below = p .below; current = Some f }
 
 -- a new level, with no current fact
 abbrev pub opened : Place → Place
-opened p = record { facts = p .facts; marks = length (p .facts) ∷ p .marks; current = None }
+opened p = record { facts = p .facts; below = p .facts ∷ p .below; current = None }
 
 -- without the newest level, and with no current fact
-abbrev pub dropped-to : List Fact → List ℕ → Place
-dropped-to facts [] = record { facts = []; marks = []; current = None }
-dropped-to facts (m ∷ ms) = record { facts = take m facts; marks = ms; current = None }
+abbrev pub down-to : List (List Fact) → Place
+down-to [] = empty
+down-to (facts ∷ below) = record { facts = facts; below = below; current = None }
 
 abbrev pub dropped : Place → Place
-dropped p = dropped-to (p .facts) (p .marks)
+dropped p = down-to (p .below)
 
 -- the most facts that an address holds, and the most levels above the first
 abbrev pub most-facts : ℕ
 most-facts = 64
 
-abbrev pub most-marks : ℕ
-most-marks = 8
+abbrev pub most-below : ℕ
+most-below = 8

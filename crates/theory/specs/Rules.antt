@@ -15,7 +15,7 @@ use Rattle.facts.specs.declared.fact.Comparison.{Comparison}
 use Rattle.facts.specs.declared.fact.Fact.{Fact}
 use Rattle.facts.specs.declared.fault.Cause.{Cause}
 use Rattle.facts.specs.declared.refusal.Refusal.{Refusal}
-use Rattle.theory.specs.Places.{Place, Places, empty, add, with-current, opened, dropped, most-facts, most-marks}
+use Rattle.theory.specs.Places.{Place, Places, empty, add, with-current, opened, dropped, most-facts, most-below}
 use Rattle.theory.specs.declared.inference.Inference.{Inference}
 use Rattle.theory.specs.declared.inference.Outcome.{Outcome}
 
@@ -101,12 +101,12 @@ pub data Telling-answer (ps : Places) (w : Wanted) : Option Refusal → Type 0 w
 
 -- a level can be opened unless some address has nine, and dropped unless some has one
 pub data Opening-answer (ps : Places) : Option Refusal → Type 0 where
-  taken : ((a : ℕ) (p : Place) → ps a ≡ Some p → length (p .marks) < most-marks) → Opening-answer ps None
-  limit : (a : ℕ) (p : Place) → ps a ≡ Some p → most-marks ≤ length (p .marks) → Opening-answer ps (Some Refusal.LevelLimit)
+  taken : ((a : ℕ) (p : Place) → ps a ≡ Some p → length (p .below) < most-below) → Opening-answer ps None
+  limit : (a : ℕ) (p : Place) → ps a ≡ Some p → most-below ≤ length (p .below) → Opening-answer ps (Some Refusal.LevelLimit)
 
 pub data Dropping-answer (ps : Places) : Option Refusal → Type 0 where
-  taken : ((a : ℕ) (p : Place) → ps a ≡ Some p → 0 < length (p .marks)) → Dropping-answer ps None
-  limit : (a : ℕ) (p : Place) → ps a ≡ Some p → length (p .marks) ≡ 0 → Dropping-answer ps (Some Refusal.LevelLimit)
+  taken : ((a : ℕ) (p : Place) → ps a ≡ Some p → 0 < length (p .below)) → Dropping-answer ps None
+  limit : (a : ℕ) (p : Place) → ps a ≡ Some p → length (p .below) ≡ 0 → Dropping-answer ps (Some Refusal.LevelLimit)
 
 -- ---- what stands afterwards
 

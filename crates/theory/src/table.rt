@@ -1,6 +1,8 @@
 ghost use mathlib.Core.Path.{_≡_};
 ghost use Prim.Native.Nat.{_≤_};
-ghost use lib.ListN.{length};
+ghost use lib.ListN.{length, take};
+ghost use mathlib.Core.List.{reverse};
+ghost use Rattle.theory.specs.Marks.{Ordered};
 use facts::Fact;
 
 pub mod methods;
@@ -16,4 +18,5 @@ pub struct Table {
     ghost within: { used ≤ 64 },
     ghost all_marks: { length marks ≡ 8 },
     ghost few: { levels ≤ 8 },
+    ghost ordered: { Ordered (reverse (take levels marks)) used },
 }

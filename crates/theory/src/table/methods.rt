@@ -4,8 +4,8 @@ ghost use Prim.Native.Nat.{_≤_};
 ghost use lib.Dec.{leb};
 ghost use lib.ListN.{length};
 ghost use Rattle.std.specs.Orderings.{When};
-ghost use Rattle.theory.specs.Places.{most-facts, most-marks};
-ghost use Rattle.theory.specs.Tables.{table-facts, table-marks, Row-written, Level-opened, Level-dropped};
+ghost use Rattle.theory.specs.Places.{most-facts, most-below};
+ghost use Rattle.theory.specs.Tables.{table-facts, table-below, Row-written, Level-opened, Level-dropped};
 use super::Table;
 use facts::Fact;
 
@@ -18,7 +18,7 @@ impl Table {
     // One empty level. What the unused rows hold does not matter.
     pub fn new(filler: Fact) -> Table
         ensures facts { λ r. ⌜ table-facts r ≡ [] ⌝ }
-        ensures marks { λ r. ⌜ table-marks r ≡ [] ⌝ }
+        ensures below { λ r. ⌜ table-below r ≡ [] ⌝ }
     {
         Table {
             rows: [filler; 64],
@@ -44,7 +44,7 @@ impl Table {
 
     // How many levels there are above the first.
     pub fn levels(&self) -> usize
-        ensures { λ r. ⌜ r ≡ length (table-marks (now (self .entry))) ⌝ }
+        ensures { λ r. ⌜ r ≡ length (table-below (now (self .entry))) ⌝ }
     {
         self.levels
     }
@@ -64,7 +64,7 @@ impl Table {
 
     // Opens a level; false where there are nine, and then all is as it was.
     pub fn open_level(&mut self) -> bool
-        ensures { λ r. ⌜ When r (Level-opened (now (self .entry)) (now (self .exit))) ((most-marks ≤ length (table-marks (now (self .entry)))) × (now (self .exit) ≡ now (self .entry))) ⌝ }
+        ensures { λ r. ⌜ When r (Level-opened (now (self .entry)) (now (self .exit))) ((most-below ≤ length (table-below (now (self .entry)))) × (now (self .exit) ≡ now (self .entry))) ⌝ }
     {
         let next = self.levels;
         if next >= MOST_MARKS {
@@ -78,14 +78,14 @@ impl Table {
     // Drops the newest level; false where there is but one, and then all is as it was. The rows
     // above its mark are no longer in use.
     pub fn drop_level(&mut self) -> bool
-        ensures { λ r. ⌜ When r (Level-dropped (now (self .entry)) (now (self .exit))) ((length (table-marks (now (self .entry))) ≡ 0) × (now (self .exit) ≡ now (self .entry))) ⌝ }
+        ensures { λ r. ⌜ When r (Level-dropped (now (self .entry)) (now (self .exit))) ((length (table-below (now (self .entry))) ≡ 0) × (now (self .exit) ≡ now (self .entry))) ⌝ }
     {
         if self.levels == 0 {
             return false;
         }
         let top = self.levels - 1;
         let mark = self.marks[top];
-        self.used = self.used.min(mark);
+        self.used = mark;
         self.levels = top;
         true
     }
