@@ -28,7 +28,7 @@ use Rattle.theory.specs.declared.inference.Outcome.{Outcome}
 use Rattle.theory.specs.declared.inference.Position.{Position}
 use Rattle.theory.proofs.Truths.{true-at}
 use Rattle.equality.specs.Terms.{same-name, same-term, argument, replaced}
-use Rattle.equality.specs.Equality.{given, needing-current, both-found, found-among, with-fact, by-equality, by-negation, provided, for-name, on-equality, transitivity, congruence, clash, propagation, comes-to, kept-on-telling, admitted, equality-rules}
+use Rattle.equality.specs.Equality.{given, needing-current, both-found, found-among, with-fact, oriented, by-equality, by-negation, provided, for-name, on-equality, transitivity, congruence, clash, propagation, comes-to, kept-on-telling, admitted, equality-rules}
 use Rattle.equality.proofs.Same.{name-decided, term-decided}
 
 module _ (v : Valuation) where
@@ -62,11 +62,16 @@ module _ (v : Valuation) where
       at None found = tt
       at (Some f) found = each now f holds (found f refl)
 
-  equality-true : (turned : Bool) (f : Fact) (rule : Term → Term → Outcome) → True v f → ((a b : Term) → term-number v a ≡ term-number v b → Outcome-true v (rule a b)) → Outcome-true v (by-equality turned f rule)
-  equality-true true (Fact.Equal a b) rule holds each = each b a (sym holds)
-  equality-true false (Fact.Equal a b) rule holds each = each a b holds
-  equality-true turned (Fact.Distinct a b) rule holds each = tt
-  equality-true turned (Fact.Linear how row) rule holds each = tt
+  oriented-true : (turned : Bool) (f : Fact) → True v f → True v (oriented turned f)
+  oriented-true true (Fact.Equal a b) holds = sym holds
+  oriented-true false (Fact.Equal a b) holds = holds
+  oriented-true turned (Fact.Distinct a b) holds = holds
+  oriented-true turned (Fact.Linear how row) holds = holds
+
+  equality-true : (f : Fact) (rule : Term → Term → Outcome) → True v f → ((a b : Term) → term-number v a ≡ term-number v b → Outcome-true v (rule a b)) → Outcome-true v (by-equality f rule)
+  equality-true (Fact.Equal a b) rule holds each = each a b holds
+  equality-true (Fact.Distinct a b) rule holds each = tt
+  equality-true (Fact.Linear how row) rule holds each = tt
 
   negation-true : (f : Fact) (rule : Term → Term → Outcome) → True v f → ((a b : Term) → (term-number v a ≡ term-number v b → ⊥) → Outcome-true v (rule a b)) → Outcome-true v (by-negation f rule)
   negation-true (Fact.Equal a b) rule holds each = tt
@@ -156,9 +161,9 @@ module _ (v : Valuation) where
   infers : (i : Inference) (fs : List Fact) (current : Option Fact) → All-true v fs → Cases current (Unit {0}) (True v) → Outcome-true v (comes-to i fs current)
   infers (Inference.Reflexivity t) fs current all holds = refl
   infers (Inference.Transitivity i turned) fs current all holds =
-      fact-true current fs i _ all holds (λ now f is f-is. equality-true turned f _ f-is (λ a b same. transitivity-true a b now same is))
+      fact-true current fs i _ all holds (λ now f is f-is. equality-true (oriented turned f) _ (oriented-true turned f f-is) (λ a b same. transitivity-true a b now same is))
   infers (Inference.Congruence i p turned) fs current all holds =
-      fact-true current fs i _ all holds (λ now f is f-is. equality-true turned f _ f-is (λ a b same. congruence-true p a b now same is))
+      fact-true current fs i _ all holds (λ now f is f-is. equality-true (oriented turned f) _ (oriented-true turned f f-is) (λ a b same. congruence-true p a b now same is))
   infers (Inference.Clash i) fs current all holds =
       fact-true current fs i _ all holds (λ now f is f-is. negation-true f _ f-is (λ a b apart. clash-true a b now apart is))
   infers Inference.Propagate fs current all holds = current-true current propagation holds propagation-true

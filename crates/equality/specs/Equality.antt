@@ -43,8 +43,12 @@ admitted v = Unit {0}
 
 -- ---- the checks before a rule, in their order
 
+abbrev pub equality-number : ℕ
+equality-number = 1
+
+-- the detail is how many facts there are where one is missing, else 0
 abbrev pub refused : Refusal → ℕ → Outcome
-refused why count = Outcome.Refused (record { refusal = why; detail = count; theory = 1 })
+refused why count = Outcome.Refused (record { refusal = why; detail = count; theory = equality-number })
 
 -- a rule goes on with what is found, or is refused
 abbrev pub given : {X : Type 0} → Result X Outcome → (X → Outcome) → Outcome
@@ -79,11 +83,17 @@ taken current fs i = both-found (current-found current) (fact-found fs i)
 abbrev pub with-fact : Option Fact → List Fact → ℕ → (Fact → Fact → Outcome) → Outcome
 with-fact current fs i rule = given (taken current fs i) (λ t. rule (t .current) (t .fact))
 
--- the fact is a = b, read as b = a if it is turned
-abbrev pub by-equality : Bool → Fact → (Term → Term → Outcome) → Outcome
-by-equality turned (Fact.Equal a b) rule = cond turned (rule b a) (rule a b)
-by-equality turned (Fact.Distinct a b) rule = refused Refusal.WrongRelation 0
-by-equality turned (Fact.Linear how row) rule = refused Refusal.WrongRelation 0
+-- the sides of a = b are exchanged if it is turned
+abbrev pub oriented : Bool → Fact → Fact
+oriented turned (Fact.Equal a b) = cond turned (Fact.Equal b a) (Fact.Equal a b)
+oriented turned (Fact.Distinct a b) = Fact.Distinct a b
+oriented turned (Fact.Linear how row) = Fact.Linear how row
+
+-- the fact is a = b
+abbrev pub by-equality : Fact → (Term → Term → Outcome) → Outcome
+by-equality (Fact.Equal a b) rule = rule a b
+by-equality (Fact.Distinct a b) rule = refused Refusal.WrongRelation 0
+by-equality (Fact.Linear how row) rule = refused Refusal.WrongRelation 0
 
 -- the fact is a ≠ b
 abbrev pub by-negation : Fact → (Term → Term → Outcome) → Outcome
@@ -138,9 +148,9 @@ propagation now =
 abbrev pub comes-to : Inference → List Fact → Option Fact → Outcome
 comes-to (Inference.Reflexivity t) fs current = Outcome.Current (Fact.Equal t t)
 comes-to (Inference.Transitivity i turned) fs current =
-    with-fact current fs i (λ now f. by-equality turned f (λ a b. transitivity a b now))
+    with-fact current fs i (λ now f. by-equality (oriented turned f) (λ a b. transitivity a b now))
 comes-to (Inference.Congruence i p turned) fs current =
-    with-fact current fs i (λ now f. by-equality turned f (λ a b. congruence p a b now))
+    with-fact current fs i (λ now f. by-equality (oriented turned f) (λ a b. congruence p a b now))
 comes-to (Inference.Clash i) fs current =
     with-fact current fs i (λ now f. by-negation f (λ a b. clash a b now))
 comes-to Inference.Propagate fs current = needing-current current propagation
@@ -153,4 +163,4 @@ comes-to Inference.Cut fs current = refused Refusal.UnknownInference 0
 comes-to Inference.Push fs current = needing-current current (λ now. Outcome.Pushed now)
 
 abbrev pub equality-rules : Rules
-equality-rules = record { number = 1; keeps = kept; told = kept-on-telling; outcome = comes-to }
+equality-rules = record { number = equality-number; keeps = kept; told = kept-on-telling; outcome = comes-to }

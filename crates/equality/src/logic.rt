@@ -2,7 +2,7 @@ ghost use Rattle.equality.specs.Equality.{equality-rules, admitted};
 use crate::steps::NUMBER;
 use crate::steps::clash;
 use crate::steps::congruence;
-use crate::steps::needed;
+use crate::steps::current_fact;
 use crate::steps::premises;
 use crate::steps::propagate;
 use crate::steps::refused;
@@ -41,33 +41,32 @@ pub impl Logic for Equality as EqualityLogic {
 
     fn told(&self, comparison: Comparison) -> Option<Fact> {
         match comparison {
+            Comparison::Less(n, m) => Some(Fact::Distinct(Term::Bare(n), Term::Bare(m))),
             Comparison::Equal(n, m) => Some(Fact::Equal(Term::Bare(n), Term::Bare(m))),
-            Comparison::Less(n, m) | Comparison::Greater(n, m) => {
-                Some(Fact::Distinct(Term::Bare(n), Term::Bare(m)))
-            }
+            Comparison::Greater(n, m) => Some(Fact::Distinct(Term::Bare(n), Term::Bare(m))),
         }
     }
 
     fn outcome(&self, inference: Inference, facts: &[Fact], current: &Option<Fact>) -> Outcome {
         match inference {
             Inference::Reflexivity(term) => Outcome::Current(Fact::Equal(term, term)),
-            Inference::Transitivity(number, turned) => match premises(current, facts, number) {
-                Ok(taken) => transitivity(taken, turned),
+            Inference::Transitivity(i, turned) => match premises(current, facts, i) {
+                Ok(taken) => transitivity(&taken, turned),
                 Err(refusal) => refusal,
             },
-            Inference::Congruence(number, position, turned) => match premises(current, facts, number) {
-                Ok(taken) => congruence(taken, position, turned),
+            Inference::Congruence(i, position, turned) => match premises(current, facts, i) {
+                Ok(taken) => congruence(&taken, position, turned),
                 Err(refusal) => refusal,
             },
-            Inference::Clash(number) => match premises(current, facts, number) {
-                Ok(taken) => clash(taken),
+            Inference::Clash(i) => match premises(current, facts, i) {
+                Ok(taken) => clash(&taken),
                 Err(refusal) => refusal,
             },
-            Inference::Propagate => match needed(current) {
+            Inference::Propagate => match current_fact(current) {
                 Ok(now) => propagate(now),
                 Err(refusal) => refusal,
             },
-            Inference::Push => match needed(current) {
+            Inference::Push => match current_fact(current) {
                 Ok(now) => Outcome::Pushed(now),
                 Err(refusal) => refusal,
             },

@@ -1,7 +1,6 @@
 // What each step comes to, from the current fact and the fact that it takes.
 ghost use mathlib.Core.Path.{_≡_};
-ghost use lib.ListN.{length};
-ghost use Rattle.equality.specs.Equality.{refused as refused-by, fails, current-found, fact-found, taken, by-equality, by-negation, transitivity as extended, congruence as rewritten, clash as opposed, propagation};
+ghost use Rattle.equality.specs.Equality.{refused as refused-by, fails, current-found, fact-found, taken, oriented as oriented-by, by-equality, by-negation, transitivity as extended, congruence as rewritten, clash as opposed, propagation};
 use crate::terms::argument;
 use crate::terms::replaced;
 use crate::terms::same_name;
@@ -15,7 +14,7 @@ use theory::Position;
 // The theory's number.
 pub(crate) const NUMBER: u8 = 1;
 
-// A refusal, with how many facts there are where one is missing, else 0.
+// The detail is how many facts there are where one is missing, else 0.
 pub(crate) fn refused(refusal: Refusal, detail: u8) -> Outcome
     ensures { λ r. ⌜ r ≡ refused-by refusal detail ⌝ }
 {
@@ -32,8 +31,8 @@ fn condition_fails() -> Outcome
     refused(Refusal::ConditionFails, 0)
 }
 
-// The current fact.
-pub(crate) fn needed(current: &Option<Fact>) -> Result<Fact, Outcome>
+// The current fact, if there is one.
+pub(crate) fn current_fact(current: &Option<Fact>) -> Result<Fact, Outcome>
     ensures { λ r. ⌜ r ≡ current-found (now (current .entry)) ⌝ }
 {
     match *current {
@@ -42,7 +41,7 @@ pub(crate) fn needed(current: &Option<Fact>) -> Result<Fact, Outcome>
     }
 }
 
-// The fact with a number.
+// The fact with a number, if there are so many.
 fn fact_at(facts: &[Fact], number: u8) -> Result<Fact, Outcome>
     ensures { λ r. ⌜ r ≡ fact-found (now (facts .entry)) number ⌝ }
 {
@@ -65,19 +64,28 @@ pub(crate) struct Taken {
 pub(crate) fn premises(current: &Option<Fact>, facts: &[Fact], number: u8) -> Result<Taken, Outcome>
     ensures { λ r. ⌜ r ≡ taken (now (current .entry)) (now (facts .entry)) number ⌝ }
 {
-    let current = needed(current)?;
+    let current = current_fact(current)?;
     let fact = fact_at(facts, number)?;
     Ok(Taken { current, fact })
 }
 
-// T
-pub(crate) fn transitivity(by: Taken, turned: bool) -> Outcome
-    ensures { λ r. ⌜ r ≡ by-equality turned (by .fact) (λ a b. extended a b (by .current)) ⌝ }
+// The fact, with its sides exchanged if it is an equality and turned.
+fn oriented(fact: Fact, turned: bool) -> Fact
+    ensures { λ r. ⌜ r ≡ oriented-by turned fact ⌝ }
 {
-    let Fact::Equal(a, b) = by.fact else {
+    match fact {
+        Fact::Equal(a, b) if turned => Fact::Equal(b, a),
+        _ => fact,
+    }
+}
+
+// T: a current l = a becomes l = b by a = b.
+pub(crate) fn transitivity(by: &Taken, turned: bool) -> Outcome
+    ensures { λ r. ⌜ r ≡ by-equality (oriented-by turned (now (by .entry) .fact)) (λ a b. extended a b (now (by .entry) .current)) ⌝ }
+{
+    let Fact::Equal(a, b) = oriented(by.fact, turned) else {
         return refused(Refusal::WrongRelation, 0);
     };
-    let (a, b) = if turned { (b, a) } else { (a, b) };
     let Fact::Equal(left, right) = by.current else {
         return condition_fails();
     };
@@ -87,35 +95,34 @@ pub(crate) fn transitivity(by: Taken, turned: bool) -> Outcome
     Outcome::Current(Fact::Equal(left, b))
 }
 
-// C
-pub(crate) fn congruence(by: Taken, position: Position, turned: bool) -> Outcome
-    ensures { λ r. ⌜ r ≡ by-equality turned (by .fact) (λ a b. rewritten position a b (by .current)) ⌝ }
+// C: an argument a of the current right side becomes b by a = b of two names.
+pub(crate) fn congruence(by: &Taken, position: Position, turned: bool) -> Outcome
+    ensures { λ r. ⌜ r ≡ by-equality (oriented-by turned (now (by .entry) .fact)) (λ a b. rewritten position a b (now (by .entry) .current)) ⌝ }
 {
-    let Fact::Equal(a, b) = by.fact else {
+    let Fact::Equal(from, to) = oriented(by.fact, turned) else {
         return refused(Refusal::WrongRelation, 0);
     };
-    let (a, b) = if turned { (b, a) } else { (a, b) };
     let Fact::Equal(left, right) = by.current else {
         return condition_fails();
     };
-    let Some(from) = a.bare_name() else {
+    let Some(a) = from.bare_name() else {
         return condition_fails();
     };
-    let Some(to) = b.bare_name() else {
+    let Some(b) = to.bare_name() else {
         return condition_fails();
     };
     let Some(name) = argument(right, position) else {
         return condition_fails();
     };
-    if !same_name(name, from) {
+    if !same_name(name, a) {
         return condition_fails();
     }
-    Outcome::Current(Fact::Equal(left, replaced(right, position, to)))
+    Outcome::Current(Fact::Equal(left, replaced(right, position, b)))
 }
 
-// N
-pub(crate) fn clash(by: Taken) -> Outcome
-    ensures { λ r. ⌜ r ≡ by-negation (by .fact) (λ a b. opposed a b (by .current)) ⌝ }
+// N: a current a = b or b = a contradicts a != b.
+pub(crate) fn clash(by: &Taken) -> Outcome
+    ensures { λ r. ⌜ r ≡ by-negation (now (by .entry) .fact) (λ a b. opposed a b (now (by .entry) .current)) ⌝ }
 {
     let Fact::Distinct(a, b) = by.fact else {
         return refused(Refusal::WrongRelation, 0);
@@ -129,7 +136,7 @@ pub(crate) fn clash(by: Taken) -> Outcome
     condition_fails()
 }
 
-// X
+// X: a current equality of two names is handed on.
 pub(crate) fn propagate(current: Fact) -> Outcome
     ensures { λ r. ⌜ r ≡ propagation current ⌝ }
 {
