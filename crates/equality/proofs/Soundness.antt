@@ -1,12 +1,11 @@
 -- What a rule of equality comes to is true where the facts and the current fact are.
 use mathlib.Core.Path.{_≡_, refl, sym, ap, _∙_, subst}
-use mathlib.Core.Bool.{Bool, true, false, cond, _&&_, _||_}
+use mathlib.Core.Bool.{Bool, true, false, _&&_, _||_}
 use mathlib.Core.List.{List}
-use mathlib.Core.Logic.{_⊎_, inl, inr, ⊎-elim}
-use Prim.Native.Nat.{ℕ, _≤_, _<_}
+use mathlib.Core.Logic.{⊎-elim}
+use Prim.Native.Nat.{ℕ}
 use native.Mathlib.Omega.{arith}
 use lib.IntN.{ℤ}
-use lib.Signed.{_<ℤ_}
 use lib.ListN.{length, getD}
 use Rattle.std.specs.Finite.{nth}
 use Rattle.std.specs.Options.{Cases}
@@ -15,7 +14,7 @@ use Rattle.std.specs.declared.option.Option.the-variants.{Some, None}
 use Rattle.std.specs.declared.result.Result.the-variants.{Ok}
 use Rattle.std.proofs.shelf.Maps.{nth-getD, nth-past}
 use Rattle.std.proofs.shelf.Signed.{ints}
-use Rattle.std.proofs.shelf.Ways.{leb-tells}
+use Rattle.std.proofs.shelf.Ways.{leb-tells, decides-and, decides-or}
 use Rattle.facts.specs.Terms.{bare-name}
 use Rattle.facts.specs.Valuations.{Valuation, True, Compared, term-number}
 use Rattle.facts.specs.declared.fact.Comparison.{Comparison}
@@ -127,27 +126,14 @@ module _ (v : Valuation) where
       current
       ∙ replaced-number p r k m r-has (ap number-of-name (name-decided k n .0 test) ∙ sym (bare-number a n a-is) ∙ same ∙ bare-number b m b-is))))))
 
-  -- a test that either of two pairs of terms is the same
-  either-way : (w x y z : Bool) → ((w && x) || (y && z)) ≡ true → ((w ≡ true) × (x ≡ true)) ⊎ ((y ≡ true) × (z ≡ true))
-  either-way true true y z h = inl (refl, refl)
-  either-way true false true true h = inr (refl, refl)
-  either-way true false true false h = let e : _≡_ {A = ℕ} 0 1 = cc in absurd (omega arith)
-  either-way true false false z h = let e : _≡_ {A = ℕ} 0 1 = cc in absurd (omega arith)
-  either-way false x true true h = inr (refl, refl)
-  either-way false x true false h = let e : _≡_ {A = ℕ} 0 1 = cc in absurd (omega arith)
-  either-way false x false z h = let e : _≡_ {A = ℕ} 0 1 = cc in absurd (omega arith)
-
   clash-true : (a b : Term) (now : Fact) → (term-number v a ≡ term-number v b → ⊥) → True v now → Outcome-true v (clash a b now)
   clash-true a b now apart holds =
       on-true now _ holds (λ l r current.
       provided-true ((same-term l a && same-term r b) || (same-term l b && same-term r a)) Outcome.Contradiction (λ test.
       ⊎-elim
-      (λ h. apart (sym (at l a (h .0)) ∙ current ∙ at r b (h .1)))
-      (λ h. apart (sym (at r a (h .1)) ∙ sym current ∙ at l b (h .0)))
-      (either-way (same-term l a) (same-term r b) (same-term l b) (same-term r a) test)))
-    where
-      at : (t u : Term) → same-term t u ≡ true → term-number v t ≡ term-number v u
-      at t u test = ap (term-number v) (term-decided t u .0 test)
+      (λ h. apart (ap (term-number v) (sym (h .0)) ∙ current ∙ ap (term-number v) (h .1)))
+      (λ h. apart (ap (term-number v) (sym (h .1)) ∙ sym current ∙ ap (term-number v) (h .0)))
+      (decides-or _ _ (decides-and _ _ (term-decided l a) (term-decided r b)) (decides-and _ _ (term-decided l b) (term-decided r a)) .0 test)))
 
   propagation-true : (now : Fact) → True v now → Outcome-true v (propagation now)
   propagation-true now holds =

@@ -12,7 +12,6 @@ use Rattle.facts.specs.Terms.{bare-name}
 use Rattle.facts.specs.Valuations.{Valuation}
 use Rattle.facts.specs.declared.fact.Comparison.{Comparison}
 use Rattle.facts.specs.declared.fact.Fact.{Fact}
-use Rattle.facts.specs.declared.fault.Cause.{Cause}
 use Rattle.facts.specs.declared.name.Name.{Name}
 use Rattle.facts.specs.declared.refusal.Refusal.{Refusal}
 use Rattle.facts.specs.declared.term.Term.{Term}

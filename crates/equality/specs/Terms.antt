@@ -1,5 +1,4 @@
 -- Names and terms: when two are the same, and the arguments of a term.
-use Prim.Native.Nat.{ℕ}
 use mathlib.Core.Bool.{Bool, _&&_}
 use lib.Dec.{eqb}
 use Rattle.std.specs.declared.option.Option.{Option}
