@@ -1,4 +1,5 @@
 ghost use mathlib.Core.Path.{_≡_};
+ghost use Rattle.std.specs.Orderings.{Decides};
 ghost use Rattle.equality.specs.Terms.{same-name, same-term, argument as argument-of, replaced as replaced-in};
 use facts::Name;
 use facts::NameEq;
@@ -6,15 +7,18 @@ use facts::Term;
 use facts::TermPartialEq;
 use theory::Position;
 
-// Whether two names are one, and two terms.
+// Whether two names are one, which is what the rules' test says.
 pub(crate) fn same_name(n: Name, m: Name) -> bool
-    ensures { λ r. ⌜ r ≡ same-name n m ⌝ }
+    ensures test { λ r. ⌜ r ≡ same-name n m ⌝ }
+    ensures one { λ r. ⌜ Decides r (n ≡ m) ⌝ }
 {
     n == m
 }
 
+// And two terms.
 pub(crate) fn same_term(t: Term, u: Term) -> bool
-    ensures { λ r. ⌜ r ≡ same-term t u ⌝ }
+    ensures test { λ r. ⌜ r ≡ same-term t u ⌝ }
+    ensures one { λ r. ⌜ Decides r (t ≡ u) ⌝ }
 {
     t == u
 }

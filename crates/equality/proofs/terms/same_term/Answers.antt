@@ -8,4 +8,4 @@ use Rattle.equality.proofs.terms.same_term.Needs as need
 pub returns : need.returns
 returns c =
     let passed : Decides (c .eq .result) (c .args .t ≡ c .args .u) = search needs in
-    same-from-decides (c .eq .result) _ passed (term-decided (c .args .t) (c .args .u))
+    record { test = same-from-decides (c .eq .result) _ passed (term-decided (c .args .t) (c .args .u)); one = passed }
