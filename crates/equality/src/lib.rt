@@ -1,5 +1,4 @@
 // Equality with unknown functions: theory 1.
-
 mod logic;
 mod steps;
 mod terms;
