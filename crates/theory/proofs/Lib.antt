@@ -1,3 +1,4 @@
 pub mod Pairs
 pub mod Singles
 pub mod Tables
+pub mod Truths
