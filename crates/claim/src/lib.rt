@@ -1,0 +1,6 @@
+// Claims: literals, then the steps of a derivation, then a seal or the branches left.
+mod step;
+
+pub use step::Branch;
+pub use step::OpenSplit;
+pub use step::Step;
