@@ -1,2 +1,4 @@
+pub mod Finishing
 pub mod Inversion
+pub mod Levels
 pub mod Parts

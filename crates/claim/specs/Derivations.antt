@@ -80,3 +80,33 @@ Waiting book (s ∷ ss) ps w = Then (Unbegun book (suc (length ss)) (s .left) (s
 -- the steps w finish every branch that is left: the one that is worked on, then those that wait
 abbrev pub Finishes : Book → Places → List OpenSplit → List Step → Type 0
 Finishes book ps ss w = Then (Derives book (length ss) ps) (Waiting book ss (all-dropped ps)) w
+
+-- ---- what a derivation that was begun has come to
+
+-- every branch is finished, or one is worked on, inside open splits, the newest first
+pub data State : Type 0 where
+  closed : State
+  working : Places → List OpenSplit → State
+
+-- the steps w finish all that is left
+abbrev pub Left : Book → State → List Step → Type 0
+Left book closed w = w ≡ []
+Left book (working ps ss) w = Finishes book ps ss w
+
+abbrev pub by-branch : {X : Type 0} → Branch → X → X → X → X
+by-branch Branch.First x y z = x
+by-branch Branch.Second x y z = y
+by-branch Branch.Third x y z = z
+
+abbrev pub in-branch : OpenSplit → Branch → OpenSplit
+in-branch s b = record { left = s .left; right = s .right; branch = b }
+
+-- where work goes on when a branch is finished, from the state before the newest split: with that
+-- split's next branch, or, after its third, as when the branch around it is finished
+abbrev pub next : Book → List OpenSplit → Places → State
+next book [] ps = closed
+next book (s ∷ ss) ps =
+    by-branch (s .branch)
+    (working (branch-from book (Comparison.Equal (s .left) (s .right)) ps) (in-branch s Branch.Second ∷ ss))
+    (working (branch-from book (Comparison.Greater (s .left) (s .right)) ps) (in-branch s Branch.Third ∷ ss))
+    (next book ss (all-dropped ps))
