@@ -89,3 +89,34 @@ module _ (book : Book) where
     took-equality a i n m h room =
         subst (λ x. Same (λ w. Finishes book ps ss (Step.Infer a i ∷ w)) (Then (D (told book (Comparison.Equal n m) ps)) (Waiting book ss x))) (sym (dropped-told book (Comparison.Equal n m) ps))
         (same-trans _ _ _ (first (Step.Infer a i)) (then-left (λ u. D ps (Step.Infer a i ∷ u)) (D (told book (Comparison.Equal n m) ps)) W (after-equality book (length ss) ps a i n m h room)))
+
+    pub took-split : (n m : Name) → length ss < most-splits → Room-told book (Comparison.Less n m) ps → Room-told book (Comparison.Equal n m) ps → Room-told book (Comparison.Greater n m) ps → Same (λ w. Finishes book ps ss (Step.Split n m ∷ w)) (Finishes book (branch-from book (Comparison.Less n m) ps) (record { left = n; right = m; branch = Branch.First } ∷ ss))
+    took-split n m few less equal greater =
+        subst (λ x. Same F (Then L (Then (Then (B x) (B (branch-from book g down))) (Waiting book ss (all-dropped down))))) (sym (again e l ps))
+        (subst (λ x. Same F (Then L (Then (Then (B (branch-from book e ps)) (B x)) (Waiting book ss (all-dropped down))))) (sym (again g l ps))
+          (subst (λ x. Same F (Then L (Then (Then (B (branch-from book e ps)) (B (branch-from book g ps))) (Waiting book ss x)))) (sym (dropped-twice book l ps))
+            (same-trans F (Then (λ u. D ps (Step.Split n m ∷ u)) W) (Then L (Then (Then (B (branch-from book e ps)) (B (branch-from book g ps))) W)) (first (Step.Split n m))
+              (same-trans _ _ _
+                (then-left (λ u. D ps (Step.Split n m ∷ u)) (Then L (Then (B (branch-from book e ps)) (B (branch-from book g ps)))) W (after-split book (length ss) ps n m few less equal greater))
+                (then-assoc L (Then (B (branch-from book e ps)) (B (branch-from book g ps))) W)))))
+      where
+        l : Comparison
+        l = Comparison.Less n m
+
+        e : Comparison
+        e = Comparison.Equal n m
+
+        g : Comparison
+        g = Comparison.Greater n m
+
+        B : Places → List Step → Type 0
+        B = Derives book (suc (length ss))
+
+        L : List Step → Type 0
+        L = B (branch-from book l ps)
+
+        F : List Step → Type 0
+        F w = Finishes book ps ss (Step.Split n m ∷ w)
+
+        down : Places
+        down = all-dropped (branch-from book l ps)

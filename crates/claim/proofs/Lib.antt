@@ -2,3 +2,4 @@ pub mod Finishing
 pub mod Inversion
 pub mod Levels
 pub mod Parts
+pub mod Soundness
