@@ -3,3 +3,4 @@ pub mod Inversion
 pub mod Levels
 pub mod Parts
 pub mod Soundness
+pub mod Stacks

@@ -1,1 +1,3 @@
 pub mod Derivations
+pub mod Popped
+pub mod Stacks

@@ -1,0 +1,7 @@
+use mathlib.Core.Path.{refl, sym}
+use native.Mathlib.Omega.{arith}
+use Rattle.claim.proofs.Stacks.{splits-count}
+use Rattle.claim.proofs.stack.Stack.depth.Needs as need
+
+pub returns : need.returns
+returns c = sym (splits-count (c .args .self .now))

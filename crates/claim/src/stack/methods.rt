@@ -1,0 +1,52 @@
+ghost use mathlib.Core.Path.{_≡_};
+ghost use mathlib.Core.List.{[], _∷_};
+ghost use Prim.Native.Nat.{_≤_, _<_};
+ghost use lib.ListN.{length};
+ghost use Rattle.std.specs.Options.{Cases};
+ghost use Rattle.std.specs.Orderings.{When};
+ghost use Rattle.claim.specs.Stacks.{stack-splits};
+ghost use Rattle.claim.specs.Popped.{Popped};
+use super::Stack;
+use crate::step::OpenSplit;
+
+// How many splits may be open at a time.
+pub const MOST_SPLITS: usize = 8;
+
+impl Stack {
+    pub fn new(filler: OpenSplit) -> Stack
+        ensures { λ r. ⌜ stack-splits r ≡ [] ⌝ }
+    {
+        Stack { rows: [filler; 8], used: 0 }
+    }
+
+    pub fn depth(&self) -> usize
+        ensures { λ r. ⌜ r ≡ length (stack-splits (now (self .entry))) ⌝ }
+    {
+        self.used
+    }
+
+    // One split more; false where there are eight, and then all is as it was.
+    pub fn push(&mut self, split: OpenSplit) -> bool
+        ensures { λ r. ⌜ When r ((length (stack-splits (now (self .entry))) < 8) × (stack-splits (now (self .exit)) ≡ split ∷ stack-splits (now (self .entry)))) ((8 ≤ length (stack-splits (now (self .entry)))) × (now (self .exit) ≡ now (self .entry))) ⌝ }
+    {
+        let next = self.used;
+        if next >= MOST_SPLITS {
+            return false;
+        }
+        self.rows[next] = split;
+        self.used = next + 1;
+        true
+    }
+
+    // The newest split, taken off.
+    pub fn pop(&mut self) -> Option<OpenSplit>
+        ensures { λ r. ⌜ Popped (stack-splits (now (self .entry))) r (stack-splits (now (self .exit))) ⌝ }
+    {
+        if self.used == 0 {
+            return None;
+        }
+        let top = self.used - 1;
+        self.used = top;
+        Some(self.rows[top])
+    }
+}
