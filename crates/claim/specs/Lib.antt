@@ -1,3 +1,5 @@
+pub mod Calls
 pub mod Derivations
 pub mod Popped
+pub mod Sent
 pub mod Stacks

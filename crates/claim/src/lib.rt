@@ -1,7 +1,9 @@
 // Claims: literals, then the steps of a derivation, then a seal or the branches left.
+mod sent;
 mod stack;
 mod step;
 
+pub use sent::SentStep;
 pub use step::Branch;
 pub use step::OpenSplit;
 pub use step::Step;
