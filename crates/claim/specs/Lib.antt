@@ -1,4 +1,5 @@
 pub mod Calls
+pub mod Counted
 pub mod Derivations
 pub mod Popped
 pub mod Sent

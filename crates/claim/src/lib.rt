@@ -1,4 +1,5 @@
 // Claims: literals, then the steps of a derivation, then a seal or the branches left.
+mod counts;
 mod sent;
 mod stack;
 mod step;
