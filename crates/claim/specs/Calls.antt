@@ -42,6 +42,9 @@ because r detail = record { refusal = r; detail = detail; theory = 0 }
 abbrev pub refused : Cause → ℕ → ℕ → ℕ → Answer
 refused c address place depth = Err (record { cause = c; address = address; place = place; depth = depth })
 
+abbrev pub refusal-of : Refusal → ℕ → ℕ → CallFault
+refusal-of r detail place = record { cause = because r detail; address = 0; place = place; depth = 0 }
+
 -- a literal sent to a claim that has taken so many: in the order of the checks
 pub data Literal-call (book : Book) (ps : Places) (place : ℕ) (l : Literal) : Answer → Places → Type 0 where
   bad-field : (b : ℕ) → first-bad (literal-fields l) ≡ Some b → Literal-call book ps place l (refused (because Refusal.FieldOutOfRange b) 0 place 0) ps

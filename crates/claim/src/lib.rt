@@ -1,9 +1,13 @@
 // Claims: literals, then the steps of a derivation, then a seal or the branches left.
 mod counts;
+mod derivation;
+mod opening;
 mod sent;
 mod stack;
 mod step;
 
+pub use derivation::Derivation;
+pub use opening::Claim;
 pub use sent::SentStep;
 pub use step::Branch;
 pub use step::OpenSplit;
