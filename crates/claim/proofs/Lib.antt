@@ -3,6 +3,7 @@ pub mod Finishing
 pub mod Inversion
 pub mod Levels
 pub mod Literals
+pub mod Moves
 pub mod Parts
 pub mod Soundness
 pub mod Stacks

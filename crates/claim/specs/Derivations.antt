@@ -93,7 +93,7 @@ abbrev pub Left : Book → State → List Step → Type 0
 Left book closed w = w ≡ []
 Left book (working ps ss) w = Finishes book ps ss w
 
-abbrev pub by-branch : {X : Type 0} → Branch → X → X → X → X
+abbrev pub by-branch {ℓ} : {X : Type ℓ} → Branch → X → X → X → X
 by-branch Branch.First x y z = x
 by-branch Branch.Second x y z = y
 by-branch Branch.Third x y z = z

@@ -6,7 +6,7 @@ ghost use Rattle.facts.specs.declared.fact.Comparison.{Comparison};
 ghost use Rattle.claim.specs.Calls.{Levelled, Ready, Fit};
 ghost use Rattle.claim.specs.Derivations.{Room-told, all-dropped, branch-from, next, working};
 ghost use Rattle.claim.specs.Stacks.{stack-splits};
-ghost use Rattle.claim.specs.Derived.{state-of};
+ghost use Rattle.claim.specs.Derived.{state-of, Branch-begun};
 use crate::counts::Counts;
 use crate::stack::Stack;
 use crate::step::Branch;
@@ -35,4 +35,25 @@ fn end_branch<T: Theory>(theory: &mut T)
     ensures { λ _. ⌜ ((n : ℕ) → Levelled (suc n) (T·Theory .places (now (theory .entry))) → T·Theory .places (now (theory .exit)) ≡ all-dropped (T·Theory .places (now (theory .entry)))) ⌝ }
 {
     let _ = theory.pop_level();
+}
+
+impl<T: Theory> Derivation<T> {
+    // Begins the branch after the one that a split was in; false where that was the last.
+    fn next_branch(&mut self, split: OpenSplit) -> bool
+        ensures { λ r. ⌜ (Levelled (length (stack-splits (now (self .entry) .stack))) (T·Theory .places (now (self .entry) .theory)) → length (stack-splits (now (self .entry) .stack)) < 8 → Room-told (T·Theory .rules) (Comparison.Equal (split .left) (split .right)) (T·Theory .places (now (self .entry) .theory)) → Room-told (T·Theory .rules) (Comparison.Greater (split .left) (split .right)) (T·Theory .places (now (self .entry) .theory)) → Branch-begun (T·Theory .places) (T·Theory .rules) split r (now (self .entry)) (now (self .exit))) ⌝ }
+    {
+        match split.branch {
+            Branch::First => {
+                begin_branch(&mut self.theory, Comparison::Equal(split.left, split.right));
+                let _ = self.stack.push(OpenSplit { left: split.left, right: split.right, branch: Branch::Second });
+                true
+            }
+            Branch::Second => {
+                begin_branch(&mut self.theory, Comparison::Greater(split.left, split.right));
+                let _ = self.stack.push(OpenSplit { left: split.left, right: split.right, branch: Branch::Third });
+                true
+            }
+            Branch::Third => false,
+        }
+    }
 }
