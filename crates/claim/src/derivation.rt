@@ -1,7 +1,9 @@
 // A derivation: steps, until every branch is finished.
 ghost use mathlib.Core.Path.{_≡_};
 ghost use Prim.Native.Nat.{ℕ, suc, _<_};
+ghost use mathlib.Core.Bool.{false};
 ghost use lib.ListN.{length};
+ghost use Rattle.std.specs.Orderings.{When};
 ghost use Rattle.facts.specs.declared.fact.Comparison.{Comparison};
 ghost use Rattle.claim.specs.Calls.{Levelled, Ready, Fit};
 ghost use Rattle.claim.specs.Derivations.{Room-told, all-dropped, branch-from, next, working};
@@ -40,7 +42,9 @@ fn end_branch<T: Theory>(theory: &mut T)
 impl<T: Theory> Derivation<T> {
     // Begins the branch after the one that a split was in; false where that was the last.
     fn next_branch(&mut self, split: OpenSplit) -> bool
-        ensures { λ r. ⌜ (Levelled (length (stack-splits (now (self .entry) .stack))) (T·Theory .places (now (self .entry) .theory)) → length (stack-splits (now (self .entry) .stack)) < 8 → Room-told (T·Theory .rules) (Comparison.Equal (split .left) (split .right)) (T·Theory .places (now (self .entry) .theory)) → Room-told (T·Theory .rules) (Comparison.Greater (split .left) (split .right)) (T·Theory .places (now (self .entry) .theory)) → Branch-begun (T·Theory .places) (T·Theory .rules) split r (now (self .entry)) (now (self .exit))) ⌝ }
+        ensures begun { λ r. ⌜ (Levelled (length (stack-splits (now (self .entry) .stack))) (T·Theory .places (now (self .entry) .theory)) → length (stack-splits (now (self .entry) .stack)) < 8 → Room-told (T·Theory .rules) (Comparison.Equal (split .left) (split .right)) (T·Theory .places (now (self .entry) .theory)) → Room-told (T·Theory .rules) (Comparison.Greater (split .left) (split .right)) (T·Theory .places (now (self .entry) .theory)) → Branch-begun (T·Theory .places) (T·Theory .rules) split r (now (self .entry)) (now (self .exit))) ⌝ }
+        ensures last { λ r. ⌜ When r (Unit {0}) ((split .branch ≡ Branch.Third) × (now (self .exit) ≡ now (self .entry))) ⌝ }
+        ensures counts { λ r. ⌜ now (self .exit) .counts ≡ now (self .entry) .counts ⌝ }
     {
         match split.branch {
             Branch::First => {
@@ -54,6 +58,22 @@ impl<T: Theory> Derivation<T> {
                 true
             }
             Branch::Third => false,
+        }
+    }
+
+    // Goes on with the next branch that waits, from the newest split outwards, or closes the
+    // derivation.
+    fn finish_branch(&mut self)
+        ensures state { λ _. ⌜ (now (self .entry) .closed ≡ false → Fit (T·Theory .rules) (working (T·Theory .places (now (self .entry) .theory)) (stack-splits (now (self .entry) .stack))) → state-of (T·Theory .places) (now (self .exit)) ≡ next (T·Theory .rules) (stack-splits (now (self .entry) .stack)) (all-dropped (T·Theory .places (now (self .entry) .theory)))) ⌝ }
+        ensures counts { λ _. ⌜ now (self .exit) .counts ≡ now (self .entry) .counts ⌝ }
+    {
+        let Some(split) = self.stack.pop() else {
+            self.closed = true;
+            return;
+        };
+        end_branch(&mut self.theory);
+        if !self.next_branch(split) {
+            self.finish_branch();
         }
     }
 }

@@ -5,7 +5,8 @@ use Rattle.claim.proofs.Moves.{was-pushed, first-entered, second-entered}
 use Rattle.claim.proofs.derivation.Derivation.next_branch.Needs as need
 
 pub returns-in-First : need.returns-in-First
-returns-in-First g c level few equal greater =
+returns-in-First g c =
+    record { begun = λ level few equal greater.
     let d = c .args .self .now in
     first-entered (g .T·Theory .places) (g .T·Theory .rules) (c .args .split) d (record { theory = c .begin-branch .last .theory; stack = c .push .last .self; closed = d .closed; counts = d .counts }) (c .in-First .is)
     (record {
@@ -13,10 +14,13 @@ returns-in-First g c level few equal greater =
       stack = was-pushed (length (stack-splits (d .stack))) _ _ _ few (c .push .ensures);
       closed = refl;
       counts = refl;
-    })
+    });
+    last = tt;
+    counts = refl }
 
 pub returns-in-Second : need.returns-in-Second
-returns-in-Second g c level few equal greater =
+returns-in-Second g c =
+    record { begun = λ level few equal greater.
     let d = c .args .self .now in
     second-entered (g .T·Theory .places) (g .T·Theory .rules) (c .args .split) d (record { theory = c .begin-branch-in-Second .last .theory; stack = c .push-in-Second .last .self; closed = d .closed; counts = d .counts }) (c .in-Second .is)
     (record {
@@ -24,4 +28,6 @@ returns-in-Second g c level few equal greater =
       stack = was-pushed (length (stack-splits (d .stack))) _ _ _ few (c .push-in-Second .ensures);
       closed = refl;
       counts = refl;
-    })
+    });
+    last = tt;
+    counts = refl }
