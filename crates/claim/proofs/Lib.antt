@@ -7,3 +7,4 @@ pub mod Moves
 pub mod Parts
 pub mod Soundness
 pub mod Stacks
+pub mod Tellings

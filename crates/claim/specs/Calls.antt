@@ -38,9 +38,12 @@ Answer = Result (Unit {0}) CallFault
 abbrev pub because : Refusal → ℕ → Cause
 because r detail = record { refusal = r; detail = detail; theory = 0 }
 
+abbrev pub fault-of : Cause → ℕ → ℕ → ℕ → CallFault
+fault-of c address place depth = record { cause = c; address = address; place = place; depth = depth }
+
 -- a refused call: its cause, the address it was sent to, the calls taken before it, the open splits
 abbrev pub refused : Cause → ℕ → ℕ → ℕ → Answer
-refused c address place depth = Err (record { cause = c; address = address; place = place; depth = depth })
+refused c address place depth = Err (fault-of c address place depth)
 
 abbrev pub refusal-of : Refusal → ℕ → ℕ → CallFault
 refusal-of r detail place = record { cause = because r detail; address = 0; place = place; depth = 0 }

@@ -2,10 +2,17 @@
 use mathlib.Core.Path.{_≡_}
 use mathlib.Core.Bool.{Bool, true, false, cond}
 use mathlib.Core.List.{_∷_}
+use Prim.Native.Nat.{ℕ}
+use lib.ListN.{length}
+use Rattle.std.specs.declared.result.Result.the-variants.{Ok, Err}
+use Rattle.facts.specs.declared.name.Name.{Name}
+use Rattle.facts.specs.declared.refusal.Refusal.{Refusal}
 use Rattle.facts.specs.declared.fact.Comparison.{Comparison}
-use Rattle.theory.specs.Rules.{Book}
+use Rattle.theory.specs.Rules.{Book, Full, telling-wanted}
+use Rattle.claim.specs.Calls.{Answer, because, fault-of}
+use Rattle.claim.specs.Counted.{place-of, Step-counted, Counted}
 use Rattle.theory.specs.Places.{Places}
-use Rattle.claim.specs.Derivations.{State, closed, working, branch-from, by-branch, in-branch}
+use Rattle.claim.specs.Derivations.{State, closed, working, Room-told, told, branch-from, by-branch, in-branch}
 use Rattle.claim.specs.Stacks.{stack-splits}
 use Rattle.claim.specs.declared.derivation.Derivation.{Derivation}
 use Rattle.claim.specs.declared.step.Branch.{Branch}
@@ -28,3 +35,16 @@ Branch-begun places book s true before after =
     (Branch-entered places book s (Comparison.Greater (s .left) (s .right)) Branch.Third before after)
     ⊥
 Branch-begun places book s false before after = (s .branch ≡ Branch.Third) × (after ≡ before)
+
+-- an equality was told at every address, or some address has no room for it
+abbrev pub Handed-on : {T : Type 0} → (T → Places) → Book → ℕ → Name → Name → Answer → Derivation T → Derivation T → Type 0
+Handed-on places book a n m (Ok x) before after =
+    Room-told book (Comparison.Equal n m) (places (before .theory))
+    × (places (after .theory) ≡ told book (Comparison.Equal n m) (places (before .theory)))
+    × (after .stack ≡ before .stack)
+    × (after .closed ≡ before .closed)
+    × Step-counted 0 (before .counts) (after .counts)
+Handed-on places book a n m (Err f) before after =
+    Full (places (before .theory)) (telling-wanted book (Comparison.Equal n m))
+    × (f ≡ fault-of (because Refusal.TableFull 0) a (place-of (before .counts)) (length (stack-splits (before .stack))))
+    × (after ≡ before)

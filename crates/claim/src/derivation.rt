@@ -5,15 +5,19 @@ ghost use mathlib.Core.Bool.{false};
 ghost use lib.ListN.{length};
 ghost use Rattle.std.specs.Orderings.{When};
 ghost use Rattle.facts.specs.declared.fact.Comparison.{Comparison};
-ghost use Rattle.claim.specs.Calls.{Levelled, Ready, Fit};
+ghost use Rattle.claim.specs.Calls.{Levelled, Ready, Fit, fault-of};
+ghost use Rattle.claim.specs.Counted.{place-of};
 ghost use Rattle.claim.specs.Derivations.{Room-told, all-dropped, branch-from, next, working};
 ghost use Rattle.claim.specs.Stacks.{stack-splits};
-ghost use Rattle.claim.specs.Derived.{state-of, Branch-begun};
+ghost use Rattle.claim.specs.Derived.{state-of, Branch-begun, Handed-on};
 use crate::counts::Counts;
 use crate::stack::Stack;
 use crate::step::Branch;
 use crate::step::OpenSplit;
+use facts::CallFault;
+use facts::Cause;
 use facts::Comparison;
+use facts::Name;
 use theory::Theory;
 
 #[derive(Drop)]
@@ -74,6 +78,35 @@ impl<T: Theory> Derivation<T> {
         end_branch(&mut self.theory);
         if !self.next_branch(split) {
             self.finish_branch();
+        }
+    }
+
+    // The fault of a call that is refused now.
+    fn fault(&self, cause: Cause, address: u8) -> CallFault
+        ensures { λ r. ⌜ r ≡ fault-of cause address (place-of (now (self .entry) .counts)) (length (stack-splits (now (self .entry) .stack))) ⌝ }
+    {
+        CallFault {
+            cause,
+            address,
+            place: self.counts.place(),
+            depth: self.stack.depth() as u8,
+        }
+    }
+
+    // Has an equality that an inference handed on told at every address.
+    fn hand_on(&mut self, address: u8, left: Name, right: Name) -> Result<(), CallFault>
+        requires { ⌜ place-of (now self .counts) < 50_000 ⌝ }
+        ensures { λ r. ⌜ Handed-on (T·Theory .places) (T·Theory .rules) address left right r (now (self .entry)) (now (self .exit)) ⌝ }
+    {
+        match self.theory.tell(Comparison::Equal(left, right)) {
+            Ok(()) => {
+                self.counts.add_step();
+                Ok(())
+            }
+            Err(refusal) => {
+                let cause = Cause { refusal, detail: 0, theory: 0 };
+                Err(self.fault(cause, address))
+            }
         }
     }
 }

@@ -20,7 +20,8 @@ impl Stack {
     }
 
     pub fn depth(&self) -> usize
-        ensures { λ r. ⌜ r ≡ length (stack-splits (now (self .entry))) ⌝ }
+        ensures value { λ r. ⌜ r ≡ length (stack-splits (now (self .entry))) ⌝ }
+        ensures bound { λ r. ⌜ r ≤ 8 ⌝ }
     {
         self.used
     }
