@@ -7,4 +7,5 @@ pub mod Moves
 pub mod Parts
 pub mod Soundness
 pub mod Stacks
+pub mod Stepping
 pub mod Tellings

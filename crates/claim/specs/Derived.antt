@@ -4,19 +4,23 @@ use mathlib.Core.Bool.{Bool, true, false, cond}
 use mathlib.Core.List.{_∷_}
 use Prim.Native.Nat.{ℕ}
 use lib.ListN.{length}
+use Rattle.std.specs.declared.option.Option.{Option}
+use Rattle.std.specs.declared.option.Option.the-variants.{Some, None}
 use Rattle.std.specs.declared.result.Result.the-variants.{Ok, Err}
 use Rattle.facts.specs.declared.name.Name.{Name}
 use Rattle.facts.specs.declared.refusal.Refusal.{Refusal}
 use Rattle.facts.specs.declared.fact.Comparison.{Comparison}
 use Rattle.theory.specs.Rules.{Book, Full, telling-wanted}
-use Rattle.claim.specs.Calls.{Answer, because, fault-of}
+use Rattle.claim.specs.Calls.{Answer, Step-call, because, fault-of}
 use Rattle.claim.specs.Counted.{place-of, Step-counted, Counted}
 use Rattle.theory.specs.Places.{Places}
 use Rattle.claim.specs.Derivations.{State, closed, working, Room-told, told, branch-from, by-branch, in-branch}
 use Rattle.claim.specs.Stacks.{stack-splits}
 use Rattle.claim.specs.declared.derivation.Derivation.{Derivation}
 use Rattle.claim.specs.declared.step.Branch.{Branch}
+use Rattle.claim.specs.declared.sent.SentStep.{SentStep}
 use Rattle.claim.specs.declared.step.OpenSplit.{OpenSplit}
+use Rattle.claim.specs.declared.step.Step.{Step}
 
 abbrev pub state-of : {T : Type 0} → (T → Places) → Derivation T → State
 state-of places d = cond (d .closed) closed (working (places (d .theory)) (stack-splits (d .stack)))
@@ -48,3 +52,15 @@ Handed-on places book a n m (Err f) before after =
     Full (places (before .theory)) (telling-wanted book (Comparison.Equal n m))
     × (f ≡ fault-of (because Refusal.TableFull 0) a (place-of (before .counts)) (length (stack-splits (before .stack))))
     × (after ≡ before)
+
+-- a refused call leaves all as it was
+abbrev pub Same-unless-taken : {T : Type 0} → Option Step → Derivation T → Derivation T → Type 0
+Same-unless-taken None before after = after ≡ before
+Same-unless-taken (Some t) before after = Unit {0}
+
+-- a step sent to a derivation
+pub record Stepped {T : Type 0} (places : T → Places) (book : Book) (s : SentStep) (r : Answer) (before after : Derivation T) : Type 0 where
+  pub taken : Option Step
+  pub call : Step-call book (place-of (before .counts)) s (state-of places before) r taken (state-of places after)
+  pub counted : Counted taken (before .counts) (after .counts)
+  pub same : Same-unless-taken taken before after

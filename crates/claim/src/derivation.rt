@@ -8,8 +8,12 @@ ghost use Rattle.facts.specs.declared.fact.Comparison.{Comparison};
 ghost use Rattle.claim.specs.Calls.{Levelled, Ready, Fit, fault-of};
 ghost use Rattle.claim.specs.Counted.{place-of};
 ghost use Rattle.claim.specs.Derivations.{Room-told, all-dropped, branch-from, next, working};
+ghost use Rattle.claim.specs.Sent.{Step-checked};
 ghost use Rattle.claim.specs.Stacks.{stack-splits};
-ghost use Rattle.claim.specs.Derived.{state-of, Branch-begun, Handed-on};
+ghost use Rattle.std.specs.declared.result.Result.the-variants.{Ok};
+ghost use Rattle.claim.specs.declared.sent.SentStep.{SentStep};
+ghost use Rattle.claim.specs.declared.step.Step.{Step};
+ghost use Rattle.claim.specs.Derived.{state-of, Branch-begun, Handed-on, Stepped};
 use crate::counts::Counts;
 use crate::stack::Stack;
 use crate::step::Branch;
@@ -18,6 +22,8 @@ use facts::CallFault;
 use facts::Cause;
 use facts::Comparison;
 use facts::Name;
+use theory::Inference;
+use theory::Outcome;
 use theory::Theory;
 
 #[derive(Drop)]
@@ -107,6 +113,30 @@ impl<T: Theory> Derivation<T> {
                 let cause = Cause { refusal, detail: 0, theory: 0 };
                 Err(self.fault(cause, address))
             }
+        }
+    }
+
+    // Takes an inference at an address.
+    fn infer(&mut self, address: u8, inference: Inference) -> Result<(), CallFault>
+        requires { ⌜ place-of (now self .counts) < 50_000 ⌝ }
+        ensures { λ r. ⌜ (now (self .entry) .closed ≡ false → Fit (T·Theory .rules) (state-of (T·Theory .places) (now (self .entry))) → (s : SentStep) → Step-checked s (Ok (Step.Infer address inference)) → Stepped (T·Theory .places) (T·Theory .rules) s r (now (self .entry)) (now (self .exit))) ⌝ }
+    {
+        match self.theory.infer(address as usize, inference) {
+            Outcome::Current(_) => {
+                self.counts.add_step();
+                Ok(())
+            }
+            Outcome::Pushed(_) => {
+                self.counts.add_step();
+                Ok(())
+            }
+            Outcome::Equal(left, right) => self.hand_on(address, left, right),
+            Outcome::Contradiction => {
+                self.finish_branch();
+                self.counts.add_step();
+                Ok(())
+            }
+            Outcome::Refused(cause) => Err(self.fault(cause, address)),
         }
     }
 }
