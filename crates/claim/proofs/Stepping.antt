@@ -11,18 +11,20 @@ use Rattle.facts.specs.declared.fact.Comparison.{Comparison}
 use Rattle.facts.specs.declared.fault.CallFault.{CallFault}
 use Rattle.facts.specs.declared.fault.Cause.{Cause}
 use Rattle.facts.specs.declared.name.Name.{Name}
+use Rattle.facts.specs.declared.refusal.Refusal.{Refusal}
 use Rattle.theory.specs.Places.{Places}
 use Rattle.theory.specs.Rules.{Book, outcome-at, Changed-at}
 use Rattle.theory.specs.declared.inference.Inference.{Inference}
 use Rattle.theory.specs.declared.inference.Outcome.{Outcome}
-use Rattle.claim.specs.Calls.{Answer, Step-call, fault-of, Fit, most-calls}
+use Rattle.claim.specs.Calls.{Answer, Step-call, because, fault-of, Fit, most-calls}
 use Rattle.claim.specs.Counted.{place-of, Step-counted, Counted}
-use Rattle.claim.specs.Derivations.{State, closed, working, next, Leaves-fact, all-dropped, changed-at}
-use Rattle.claim.specs.Derived.{state-of, Stepped, Handed-on}
+use Rattle.claim.specs.Derivations.{State, closed, working, next, Leaves-fact, Room-told, all-dropped, changed-at, branch-from, most-splits}
+use Rattle.claim.specs.Derived.{state-of, Stepped, Handed-on, Split-answer}
 use Rattle.claim.specs.Sent.{Step-checked}
 use Rattle.claim.specs.Stacks.{stack-splits}
 use Rattle.claim.specs.declared.derivation.Derivation.{Derivation}
 use Rattle.claim.specs.declared.sent.SentStep.{SentStep}
+use Rattle.claim.specs.declared.step.Branch.{Branch}
 use Rattle.claim.specs.declared.step.Step.{Step}
 
 module _ {T : Type 0} (places-of : T → Places) (book : Book) (d : Derivation T) (is-open : d .closed ≡ false) where
@@ -74,3 +76,34 @@ module _ {T : Type 0} (places-of : T → Places) (book : Book) (d : Derivation T
     stepped-equal n m (Err f) after e h =
         refused-from f after (h .2)
         (subst (λ x. Step-call book (place-of (d .counts)) s (working (places-of (d .theory)) (stack-splits (d .stack))) (Err x) None (working (places-of (d .theory)) (stack-splits (d .stack)))) (sym (h .1)) (Step-call.cannot-tell a i n m checked few (sym e) (h .0)))
+
+  module _ (few : place-of (d .counts) < most-calls) (s : SentStep) (n m : Name) (checked : Step-checked s (Ok (Step.Split n m))) where
+    split-refused : (f g : CallFault) → f ≡ g → Step-call book (place-of (d .counts)) s (working (places-of (d .theory)) (stack-splits (d .stack))) (Err g) None (working (places-of (d .theory)) (stack-splits (d .stack))) → Stepped places-of book s (Err f) d d
+    split-refused f g is call =
+        record {
+          taken = None;
+          call = subst (λ x. Step-call book (place-of (d .counts)) s x (Err f) None x) (sym is-working) (subst (λ x. Step-call book (place-of (d .counts)) s (working (places-of (d .theory)) (stack-splits (d .stack))) (Err x) None (working (places-of (d .theory)) (stack-splits (d .stack)))) (sym is) call);
+          counted = refl;
+          same = refl;
+        }
+
+    abbrev fault-now : Refusal → CallFault
+    fault-now r = fault-of (because r 0) 0 (place-of (d .counts)) (length (stack-splits (d .stack)))
+
+    pub split-deep : (c : Cause) (f : CallFault) → c ≡ because Refusal.LevelLimit 0 → f ≡ fault-of c 0 (place-of (d .counts)) (length (stack-splits (d .stack))) → most-splits ≤ length (stack-splits (d .stack)) → Stepped places-of book s (Err f) d d
+    split-deep c f cause is deep = split-refused f (fault-now Refusal.LevelLimit) (is ∙ ap (λ x. fault-of x 0 (place-of (d .counts)) (length (stack-splits (d .stack)))) cause) (Step-call.too-deep n m checked few deep)
+
+    pub split-full : (r : Refusal) (c : Cause) (f : CallFault) → c ≡ because r 0 → f ≡ fault-of c 0 (place-of (d .counts)) (length (stack-splits (d .stack))) → length (stack-splits (d .stack)) < most-splits → Split-answer book (places-of (d .theory)) n m (Some r) → Stepped places-of book s (Err f) d d
+    split-full r c f cause is shallow h =
+        split-refused f (fault-now Refusal.TableFull) (is ∙ ap (λ x. fault-of x 0 (place-of (d .counts)) (length (stack-splits (d .stack)))) (cause ∙ ap (λ x. because x 0) (h .0))) (Step-call.cannot-split n m checked few shallow (h .1))
+
+    pub split-taken : (after : Derivation T) → length (stack-splits (d .stack)) < most-splits → Split-answer book (places-of (d .theory)) n m None → places-of (after .theory) ≡ branch-from book (Comparison.Less n m) (places-of (d .theory)) → stack-splits (after .stack) ≡ record { left = n; right = m; branch = Branch.First } ∷ stack-splits (d .stack) → after .closed ≡ d .closed → Step-counted 1 (d .counts) (after .counts) → Stepped places-of book s (Ok tt) d after
+    split-taken after shallow room now stack same counted =
+        let final : State = working (branch-from book (Comparison.Less n m) (places-of (d .theory))) (record { left = n; right = m; branch = Branch.First } ∷ stack-splits (d .stack)) in
+        let is : state-of places-of after ≡ working (branch-from book (Comparison.Less n m) (places-of (d .theory))) (record { left = n; right = m; branch = Branch.First } ∷ stack-splits (d .stack)) = ap (λ c. cond c closed (working (places-of (after .theory)) (stack-splits (after .stack)))) (same ∙ is-open) ∙ ap (λ ss. working (places-of (after .theory)) ss) stack ∙ ap (λ ps. working ps (record { left = n; right = m; branch = Branch.First } ∷ stack-splits (d .stack))) now in
+        record {
+          taken = Some (Step.Split n m);
+          call = subst (λ x. Step-call book (place-of (d .counts)) s x (Ok tt) (Some (Step.Split n m)) (state-of places-of after)) (sym is-working) (subst (Step-call book (place-of (d .counts)) s (working (places-of (d .theory)) (stack-splits (d .stack))) (Ok tt) (Some (Step.Split n m))) (sym is) (Step-call.split n m checked few shallow (room .0) (room .1) (room .2)));
+          counted = counted;
+          same = tt;
+        }

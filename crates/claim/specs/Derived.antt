@@ -2,6 +2,7 @@
 use mathlib.Core.Path.{_≡_}
 use mathlib.Core.Bool.{Bool, true, false, cond}
 use mathlib.Core.List.{_∷_}
+use mathlib.Core.Logic.{_⊎_}
 use Prim.Native.Nat.{ℕ}
 use lib.ListN.{length}
 use Rattle.std.specs.declared.option.Option.{Option}
@@ -64,3 +65,8 @@ pub record Stepped {T : Type 0} (places : T → Places) (book : Book) (s : SentS
   pub call : Step-call book (place-of (before .counts)) s (state-of places before) r taken (state-of places after)
   pub counted : Counted taken (before .counts) (after .counts)
   pub same : Same-unless-taken taken before after
+
+-- whether there is room for all three tellings of a split
+abbrev pub Split-answer : Book → Places → Name → Name → Option Refusal → Type 0
+Split-answer book ps n m None = Room-told book (Comparison.Less n m) ps × Room-told book (Comparison.Equal n m) ps × Room-told book (Comparison.Greater n m) ps
+Split-answer book ps n m (Some r) = (r ≡ Refusal.TableFull) × (Full ps (telling-wanted book (Comparison.Less n m)) ⊎ (Full ps (telling-wanted book (Comparison.Equal n m)) ⊎ Full ps (telling-wanted book (Comparison.Greater n m))))

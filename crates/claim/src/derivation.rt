@@ -5,7 +5,7 @@ ghost use mathlib.Core.Bool.{false};
 ghost use lib.ListN.{length};
 ghost use Rattle.std.specs.Orderings.{When};
 ghost use Rattle.facts.specs.declared.fact.Comparison.{Comparison};
-ghost use Rattle.claim.specs.Calls.{Levelled, Ready, Fit, fault-of};
+ghost use Rattle.claim.specs.Calls.{Levelled, Ready, Fit, fault-of, because};
 ghost use Rattle.claim.specs.Counted.{place-of};
 ghost use Rattle.claim.specs.Derivations.{Room-told, all-dropped, branch-from, next, working};
 ghost use Rattle.claim.specs.Sent.{Step-checked};
@@ -13,15 +13,17 @@ ghost use Rattle.claim.specs.Stacks.{stack-splits};
 ghost use Rattle.std.specs.declared.result.Result.the-variants.{Ok};
 ghost use Rattle.claim.specs.declared.sent.SentStep.{SentStep};
 ghost use Rattle.claim.specs.declared.step.Step.{Step};
-ghost use Rattle.claim.specs.Derived.{state-of, Branch-begun, Handed-on, Stepped};
+ghost use Rattle.claim.specs.Derived.{state-of, Branch-begun, Handed-on, Stepped, Split-answer};
 use crate::counts::Counts;
 use crate::stack::Stack;
+use crate::stack::methods::MOST_SPLITS;
 use crate::step::Branch;
 use crate::step::OpenSplit;
 use facts::CallFault;
 use facts::Cause;
 use facts::Comparison;
 use facts::Name;
+use facts::Refusal;
 use theory::Inference;
 use theory::Outcome;
 use theory::Theory;
@@ -32,6 +34,12 @@ pub struct Derivation<T> {
     stack: Stack,
     closed: bool,
     counts: Counts,
+}
+
+fn because(refusal: Refusal) -> Cause
+    ensures { λ r. ⌜ r ≡ because refusal 0 ⌝ }
+{
+    Cause { refusal, detail: 0, theory: 0 }
 }
 
 // Opens a level in which a comparison is told.
@@ -110,8 +118,7 @@ impl<T: Theory> Derivation<T> {
                 Ok(())
             }
             Err(refusal) => {
-                let cause = Cause { refusal, detail: 0, theory: 0 };
-                Err(self.fault(cause, address))
+                Err(self.fault(because(refusal), address))
             }
         }
     }
@@ -138,5 +145,35 @@ impl<T: Theory> Derivation<T> {
             }
             Outcome::Refused(cause) => Err(self.fault(cause, address)),
         }
+    }
+
+    // Why a split's tellings are refused: each of the three needs room.
+    fn split_refusal(&self, left: Name, right: Name) -> Option<Refusal>
+        ensures { λ r. ⌜ Split-answer (T·Theory .rules) (T·Theory .places (now (self .entry) .theory)) left right r ⌝ }
+    {
+        if let Some(refusal) = self.theory.tell_refusal(Comparison::Less(left, right)) {
+            return Some(refusal);
+        }
+        if let Some(refusal) = self.theory.tell_refusal(Comparison::Equal(left, right)) {
+            return Some(refusal);
+        }
+        self.theory.tell_refusal(Comparison::Greater(left, right))
+    }
+
+    // Takes a split, and goes on in its first branch.
+    fn split(&mut self, left: Name, right: Name) -> Result<(), CallFault>
+        requires { ⌜ place-of (now self .counts) < 50_000 ⌝ }
+        ensures { λ r. ⌜ (now (self .entry) .closed ≡ false → Fit (T·Theory .rules) (state-of (T·Theory .places) (now (self .entry))) → (s : SentStep) → Step-checked s (Ok (Step.Split left right)) → Stepped (T·Theory .places) (T·Theory .rules) s r (now (self .entry)) (now (self .exit))) ⌝ }
+    {
+        if self.stack.depth() >= MOST_SPLITS {
+            return Err(self.fault(because(Refusal::LevelLimit), 0));
+        }
+        if let Some(refusal) = self.split_refusal(left, right) {
+            return Err(self.fault(because(refusal), 0));
+        }
+        begin_branch(&mut self.theory, Comparison::Less(left, right));
+        let _ = self.stack.push(OpenSplit { left, right, branch: Branch::First });
+        self.counts.add_split();
+        Ok(())
     }
 }

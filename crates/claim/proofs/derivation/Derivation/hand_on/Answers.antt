@@ -19,4 +19,4 @@ returns-in-Err g c =
     let d = c .args .self .now in
     let h = c .in-Err .ensures tt in
     let full = refused-full (g .T·Theory .places (d .theory)) (telling-wanted (g .T·Theory .rules) (Comparison.Equal (c .args .left) (c .args .right))) _ (h .0) in
-    (full .0, c .fault .ensures ∙ ap (λ r. fault-of (because r 0) (c .args .address) (place-of (d .counts)) (length (stack-splits (d .stack)))) (full .1), same-derivation d _ (h .1))
+    (full .0, c .fault .ensures ∙ ap (λ x. fault-of x (c .args .address) (place-of (d .counts)) (length (stack-splits (d .stack)))) (c .because .ensures) ∙ ap (λ r. fault-of (because r 0) (c .args .address) (place-of (d .counts)) (length (stack-splits (d .stack)))) (full .1), same-derivation d _ (h .1))
