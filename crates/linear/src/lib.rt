@@ -1,5 +1,10 @@
-// Arithmetic on rows over whole numbers: floor division, divisors, the cut.
+// The theories over rows: their rules for fractions, and for whole numbers.
 mod content;
 mod cut;
+mod difference;
 mod division;
+mod domain;
 mod gcd;
+mod question;
+mod rule;
+mod sum;
