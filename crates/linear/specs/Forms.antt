@@ -61,22 +61,35 @@ difference? r n m =
     difference-if r n m (equal? (r .constant) (pos 0)) (at-most? (pos 1) (coefficient r (n .index)))
     (each-below? _ (λ k. equal? (coefficient r k) (coefficient r (n .index) *ℤ difference-at n m k)) 32)
 
-pub compares? : (how : Relation) (z : ℤ) → Dec (Compares how z)
-compares? Relation.NonNegative z = at-most? (pos 0) z
-compares? Relation.Positive z = less? (pos 0) z
-compares? Relation.Zero z = equal? z (pos 0)
-
 -- past the coefficients there is only 0
 pub nameless-below : (r : Row) → ((k : ℕ) → k < 32 → coefficient r k ≡ pos 0) → Nameless r
 nameless-below r below k =
     ⊎-elim (λ h. getD-past (r .coefficients) k (pos 0) (omega (arith, h .1, r .long))) (λ h. below k (h .1)) (leb-tells 32 k)
 
-pub nameless? : (r : Row) → Dec (Nameless r)
+nameless? : (r : Row) → Dec (Nameless r)
 nameless? r =
     elim (each-below? (λ k. coefficient r k ≡ pos 0) (λ k. equal? (coefficient r k) (pos 0)) 32) [
       yes below ↦ yes (nameless-below r below)
     | no other ↦ no (λ all. other (λ k _. all k))
     ]
+
+compares? : (how : Relation) (z : ℤ) → Dec (Compares how z)
+compares? Relation.NonNegative z = at-most? (pos 0) z
+compares? Relation.Positive z = less? (pos 0) z
+compares? Relation.Zero z = equal? z (pos 0)
+
+-- the row has no names, and its constant does not compare so with 0
+pub record Contradicts (how : Relation) (r : Row) : Type 0 where
+  pub nameless : Nameless r
+  pub fails : Compares how (r .constant) → ⊥
+
+contradicts-if : (how : Relation) (r : Row) → Dec (Nameless r) → Dec (Compares how (r .constant)) → Dec (Contradicts how r)
+contradicts-if how r (no other) c = no (λ h. other (h .nameless))
+contradicts-if how r (yes n) (yes c) = no (λ h. h .fails c)
+contradicts-if how r (yes n) (no other) = yes (record { nameless = n; fails = other })
+
+pub contradicts? : (how : Relation) (r : Row) → Dec (Contradicts how r)
+contradicts? how r = contradicts-if how r (nameless? r) (compares? how (r .constant))
 
 -- ---- the cut
 

@@ -49,9 +49,13 @@ fits? c cs =
 unfoldable pub row-with : (c : ℤ) (cs : List ℤ) → Fits c cs → Row
 row-with c cs f = record { constant = c; coefficients = cs; long = f .long; sized = f .sized; «all_sized» = f .all-sized }
 
+unfoldable pub row-if : (c : ℤ) (cs : List ℤ) → Dec (Fits c cs) → Option Row
+row-if c cs (yes f) = Some (row-with c cs f)
+row-if c cs (no f) = None
+
 -- the row with these numbers, if they fit
 unfoldable pub row-of : ℤ → List ℤ → Option Row
-row-of c cs = elim (fits? c cs) [ yes f ↦ Some (row-with c cs f) | no f ↦ None ]
+row-of c cs = row-if c cs (fits? c cs)
 
 -- the coefficient of the name with index k; 0 if the row does not have it
 abbrev pub coefficient : Row → ℕ → ℤ

@@ -22,7 +22,7 @@ use Rattle.theory.specs.Rules.{Rules}
 use Rattle.theory.specs.declared.inference.Inference.{Inference}
 use Rattle.theory.specs.declared.inference.Outcome.{Outcome}
 use Rattle.linear.specs.Deciding.{holds}
-use Rattle.linear.specs.Forms.{difference?, nameless?, compares?, sum-row, zero-row, lowered, cut-row, difference-row}
+use Rattle.linear.specs.Forms.{difference?, contradicts?, sum-row, zero-row, lowered, cut-row, difference-row}
 use Rattle.linear.specs.declared.domain.Domain.{Domain}
 
 -- the theory of fractions is number 2, that of whole numbers 3
@@ -129,8 +129,7 @@ both-ways d n m (Some a) (Some b) =
 abbrev pub falsified : Domain → Fact → Outcome
 falsified d (Fact.Equal t u) = refused d Refusal.ConditionFails
 falsified d (Fact.Distinct t u) = refused d Refusal.ConditionFails
-falsified d (Fact.Linear how r) =
-    cond (holds (nameless? r)) (cond (holds (compares? how (r .constant))) (refused d Refusal.ConditionFails) Outcome.Contradiction) (refused d Refusal.ConditionFails)
+falsified d (Fact.Linear how r) = cond (holds (contradicts? how r)) Outcome.Contradiction (refused d Refusal.ConditionFails)
 
 -- ---- I: a whole number above 0 is at least 1
 

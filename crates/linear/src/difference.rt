@@ -4,7 +4,8 @@ ghost use lib.IntN.{pos, _*ℤ_};
 ghost use lib.ListN.{getD};
 ghost use Rattle.std.specs.Orderings.{Decides};
 ghost use Rattle.facts.specs.Sizes.{Sized, row-limit};
-ghost use Rattle.linear.specs.Forms.{Difference, difference-at, difference-row, one-at};
+ghost use Rattle.linear.specs.Deciding.{holds};
+ghost use Rattle.linear.specs.Forms.{difference?, difference-at, difference-row, one-at};
 ghost use Rattle.linear.specs.Rows.{listed};
 use facts::Name;
 use facts::NameEq;
@@ -42,7 +43,8 @@ pub(crate) fn difference(n: Name, m: Name) -> Option<Row>
 
 // The coefficient in size n - size m of the name with index k.
 fn multiple_at(size: i64, n: Name, m: Name, k: usize) -> i64
-    requires { ⌜ (n ≡ m → ⊥) ⌝ ∗ ⌜ Sized row-limit size ⌝ }
+    requires two { ⌜ (n ≡ m → ⊥) ⌝ }
+    requires small { ⌜ Sized row-limit size ⌝ }
     ensures { λ r. ⌜ r ≡ size *ℤ difference-at n m k ⌝ }
 {
     if n.index() as usize == k {
@@ -56,7 +58,8 @@ fn multiple_at(size: i64, n: Name, m: Name, k: usize) -> i64
 
 // Whether the coefficients are those of size n - size m.
 fn all_multiples(coefficients: &[i64; 32], size: i64, n: Name, m: Name) -> bool
-    requires { ⌜ (n ≡ m → ⊥) ⌝ ∗ ⌜ Sized row-limit size ⌝ }
+    requires two { ⌜ (n ≡ m → ⊥) ⌝ }
+    requires small { ⌜ Sized row-limit size ⌝ }
     ensures { λ r. ⌜ Decides r ((k : ℕ) → k < 32 → getD (now (coefficients .entry)) k (pos 0) ≡ size *ℤ difference-at n m k) ⌝ }
 {
     for i in 0..32 {
@@ -69,11 +72,17 @@ fn all_multiples(coefficients: &[i64; 32], size: i64, n: Name, m: Name) -> bool
 
 // Whether the row is a positive multiple of n - m.
 pub(crate) fn is_difference(row: &Row, n: Name, m: Name) -> bool
-    ensures { λ r. ⌜ Decides r (Difference (now (row .entry)) n m) ⌝ }
+    ensures { λ r. ⌜ r ≡ holds (difference? (now (row .entry)) n m) ⌝ }
 {
     if n == m {
         return false;
     }
+    if row.constant() != 0 {
+        return false;
+    }
     let size = row.coefficient(n);
-    row.constant() == 0 && size >= 1 && all_multiples(row.coefficients(), size, n, m)
+    if size < 1 {
+        return false;
+    }
+    all_multiples(row.coefficients(), size, n, m)
 }

@@ -2,6 +2,8 @@ ghost use mathlib.Core.Path.{_≡_};
 ghost use Rattle.std.specs.Orderings.{Decides};
 ghost use Rattle.facts.specs.Valuations.{Compares};
 ghost use Rattle.linear.specs.Cut.{Nameless};
+ghost use Rattle.linear.specs.Deciding.{holds};
+ghost use Rattle.linear.specs.Forms.{contradicts?};
 ghost use Rattle.linear.specs.Rules.{may-multiply, joined, at-least, above, keeps};
 use facts::Fact;
 use facts::Relation;
@@ -9,7 +11,7 @@ use facts::Row;
 use theory::Factor;
 
 // Whether no coefficient is other than 0.
-pub(crate) fn is_nameless(row: &Row) -> bool
+fn is_nameless(row: &Row) -> bool
     ensures { λ r. ⌜ Decides r (Nameless (now (row .entry))) ⌝ }
 {
     let coefficients = row.coefficients();
@@ -22,7 +24,7 @@ pub(crate) fn is_nameless(row: &Row) -> bool
 }
 
 // Whether a number compares so with 0.
-pub(crate) fn compares(how: Relation, number: i64) -> bool
+fn compares(how: Relation, number: i64) -> bool
     ensures { λ r. ⌜ Decides r (Compares how number) ⌝ }
 {
     match how {
@@ -30,6 +32,16 @@ pub(crate) fn compares(how: Relation, number: i64) -> bool
         Relation::Positive => number > 0,
         Relation::Zero => number == 0,
     }
+}
+
+// Whether the row has no names, and does not compare so with 0.
+pub(crate) fn contradicts(how: Relation, row: &Row) -> bool
+    ensures { λ r. ⌜ r ≡ holds (contradicts? how (now (row .entry))) ⌝ }
+{
+    if !is_nameless(row) {
+        return false;
+    }
+    !compares(how, row.constant())
 }
 
 // Whether a row that compares so with 0 may be multiplied by the factor.

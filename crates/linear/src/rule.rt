@@ -8,8 +8,7 @@ use crate::cut::cut;
 use crate::difference::difference;
 use crate::difference::is_difference;
 use crate::domain::Domain;
-use crate::question::compares;
-use crate::question::is_nameless;
+use crate::question::contradicts;
 use crate::question::join;
 use crate::question::may_multiply;
 use crate::question::row_above;
@@ -118,7 +117,7 @@ fn falsify(domain: Domain, current: &Fact) -> Outcome
     let Fact::Linear(how, row) = *current else {
         return refuse(domain, Refusal::ConditionFails);
     };
-    if is_nameless(&row) && !compares(how, row.constant()) {
+    if contradicts(how, &row) {
         Outcome::Contradiction
     } else {
         refuse(domain, Refusal::ConditionFails)

@@ -13,24 +13,24 @@ pub(crate) fn zero() -> Option<Row>
     Row::new(0, [0; 32])
 }
 
-// a and c times b.
-fn sum_number(a: i64, c: i64, b: i64) -> i64
-    requires { ⌜ Sized row-limit a ⌝ ∗ ⌜ Sized 1_000_000 c ⌝ ∗ ⌜ Sized row-limit b ⌝ }
-    ensures { λ r. ⌜ r ≡ a +ℤ (c *ℤ b) ⌝ }
+// A number and a multiple of another.
+fn sum_number(a: i64, factor: Factor, b: i64) -> i64
+    requires left { ⌜ Sized row-limit a ⌝ }
+    requires right { ⌜ Sized row-limit b ⌝ }
+    ensures { λ r. ⌜ r ≡ a +ℤ (factor .value *ℤ b) ⌝ }
 {
-    a + c * b
+    a + i64::from(factor.value()) * b
 }
 
-// The coefficients of a and c times b.
-fn sum_coefficients(a: &Row, c: i64, b: &Row) -> [i64; 32]
-    requires { ⌜ Sized 1_000_000 c ⌝ }
-    ensures { λ r. ⌜ r ≡ listed (λ k. coefficient (now (a .entry)) k +ℤ (c *ℤ coefficient (now (b .entry)) k)) ⌝ }
+// The coefficients of a row and a multiple of another.
+fn sum_coefficients(a: &Row, factor: Factor, b: &Row) -> [i64; 32]
+    ensures { λ r. ⌜ r ≡ listed (λ k. coefficient (now (a .entry)) k +ℤ (factor .value *ℤ coefficient (now (b .entry)) k)) ⌝ }
 {
     let left = a.coefficients();
     let right = b.coefficients();
     let mut sums = [0; 32];
     for i in 0..32 {
-        sums[i] = sum_number(left[i], c, right[i]);
+        sums[i] = sum_number(left[i], factor, right[i]);
     }
     sums
 }
@@ -39,6 +39,6 @@ fn sum_coefficients(a: &Row, c: i64, b: &Row) -> [i64; 32]
 pub(crate) fn sum(a: &Row, factor: Factor, b: &Row) -> Option<Row>
     ensures { λ r. ⌜ r ≡ sum-row (now (a .entry)) (factor .value) (now (b .entry)) ⌝ }
 {
-    let c = i64::from(factor.value());
-    Row::new(sum_number(a.constant(), c, b.constant()), sum_coefficients(a, c, b))
+    let constant = sum_number(a.constant(), factor, b.constant());
+    Row::new(constant, sum_coefficients(a, factor, b))
 }
