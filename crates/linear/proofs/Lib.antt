@@ -1,8 +1,10 @@
 pub mod Answers
 pub mod Contents
+pub mod CutRows
 pub mod Cuts
 pub mod Divisors
 pub mod Floors
 pub mod Listed
 pub mod Quotients
 pub mod RowsMade
+pub mod Soundness

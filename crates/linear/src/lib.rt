@@ -4,7 +4,14 @@ mod cut;
 mod difference;
 mod division;
 mod domain;
+mod fractions;
 mod gcd;
 mod question;
 mod rule;
 mod sum;
+mod whole;
+
+pub use fractions::Fractions;
+pub use fractions::FractionsLogic;
+pub use whole::Whole;
+pub use whole::WholeLogic;

@@ -1,8 +1,8 @@
 ghost use mathlib.Core.Path.{_≡_};
-ghost use Prim.Native.Nat.{_≤_};
+ghost use Prim.Native.Nat.{_≤_, _<_};
 ghost use lib.ListN.{length};
+ghost use Rattle.std.specs.Options.{Cases};
 ghost use Rattle.std.specs.shelf.Maps.{nth};
-ghost use Rattle.linear.specs.Forms.{lowered};
 ghost use Rattle.linear.specs.Rules.{refused, no-such-fact, becomes, add-to, added, both-ways, at-least, above, falsified, strengthened, divided, by-current, by-fact, whole-only, told, apart, outcome};
 use crate::cut::cut;
 use crate::difference::difference;
@@ -13,6 +13,7 @@ use crate::question::join;
 use crate::question::may_multiply;
 use crate::question::row_above;
 use crate::question::row_at_least;
+use crate::sum::lower;
 use crate::sum::sum;
 use crate::sum::zero;
 use facts::Cause;
@@ -49,7 +50,8 @@ fn refuse_index(domain: Domain, facts: &[Fact]) -> Outcome
 }
 
 fn fact_at(facts: &[Fact], index: u8) -> Option<Fact>
-    ensures { λ r. ⌜ r ≡ nth (now (facts .entry)) index ⌝ }
+    ensures which { λ r. ⌜ r ≡ nth (now (facts .entry)) index ⌝ }
+    ensures missing { λ r. ⌜ Cases r (length (now (facts .entry)) ≤ index) (λ _. index < length (now (facts .entry))) ⌝ }
 {
     let i = index as usize;
     if i < facts.len() { Some(facts[i]) } else { None }
@@ -121,5 +123,138 @@ fn falsify(domain: Domain, current: &Fact) -> Outcome
         Outcome::Contradiction
     } else {
         refuse(domain, Refusal::ConditionFails)
+    }
+}
+
+// I, at the current fact.
+fn strengthen(domain: Domain, current: &Fact) -> Outcome
+    ensures { λ r. ⌜ r ≡ strengthened domain (above (now (current .entry))) ⌝ }
+{
+    match row_above(current) {
+        Some(row) => make_current(domain, Relation::NonNegative, lower(&row)),
+        None => refuse(domain, Refusal::ConditionFails),
+    }
+}
+
+// U, at the current fact.
+fn divide(domain: Domain, current: &Fact) -> Outcome
+    ensures { λ r. ⌜ r ≡ divided domain (at-least (now (current .entry))) ⌝ }
+{
+    let Some(row) = row_at_least(current) else {
+        return refuse(domain, Refusal::ConditionFails);
+    };
+    match cut(&row) {
+        Some(row) => Outcome::Current(Fact::Linear(Relation::NonNegative, row)),
+        None => refuse(domain, Refusal::ConditionFails),
+    }
+}
+
+// The rules that need a current fact.
+fn infer_add(domain: Domain, index: u8, factor: Factor, facts: &[Fact], current: &Option<Fact>) -> Outcome
+    ensures { λ r. ⌜ r ≡ by-current domain (now (current .entry)) (λ held. by-fact domain (now (facts .entry)) (nth (now (facts .entry)) index) (added domain (factor .value) held)) ⌝ }
+{
+    let Some(held) = *current else {
+        return refuse(domain, Refusal::NoCurrentFact);
+    };
+    match fact_at(facts, index) {
+        Some(fact) => add(domain, factor, &held, &fact),
+        None => refuse_index(domain, facts),
+    }
+}
+
+fn infer_antisymmetry(domain: Domain, index: u8, n: Name, m: Name, facts: &[Fact], current: &Option<Fact>) -> Outcome
+    ensures { λ r. ⌜ r ≡ by-current domain (now (current .entry)) (λ held. by-fact domain (now (facts .entry)) (nth (now (facts .entry)) index) (λ fact. both-ways domain n m (at-least held) (at-least fact))) ⌝ }
+{
+    let Some(held) = *current else {
+        return refuse(domain, Refusal::NoCurrentFact);
+    };
+    match fact_at(facts, index) {
+        Some(fact) => antisymmetry(domain, n, m, &held, &fact),
+        None => refuse_index(domain, facts),
+    }
+}
+
+fn infer_falsify(domain: Domain, current: &Option<Fact>) -> Outcome
+    ensures { λ r. ⌜ r ≡ by-current domain (now (current .entry)) (falsified domain) ⌝ }
+{
+    match *current {
+        Some(held) => falsify(domain, &held),
+        None => refuse(domain, Refusal::NoCurrentFact),
+    }
+}
+
+fn infer_strengthen(domain: Domain, current: &Option<Fact>) -> Outcome
+    ensures { λ r. ⌜ r ≡ whole-only domain (by-current domain (now (current .entry)) (λ held. strengthened domain (above held))) ⌝ }
+{
+    let Domain::Whole = domain else {
+        return refuse(domain, Refusal::UnknownInference);
+    };
+    match *current {
+        Some(held) => strengthen(domain, &held),
+        None => refuse(domain, Refusal::NoCurrentFact),
+    }
+}
+
+fn infer_cut(domain: Domain, current: &Option<Fact>) -> Outcome
+    ensures { λ r. ⌜ r ≡ whole-only domain (by-current domain (now (current .entry)) (λ held. divided domain (at-least held))) ⌝ }
+{
+    let Domain::Whole = domain else {
+        return refuse(domain, Refusal::UnknownInference);
+    };
+    match *current {
+        Some(held) => divide(domain, &held),
+        None => refuse(domain, Refusal::NoCurrentFact),
+    }
+}
+
+fn infer_push(domain: Domain, current: &Option<Fact>) -> Outcome
+    ensures { λ r. ⌜ r ≡ by-current domain (now (current .entry)) (λ held. Outcome.Pushed held) ⌝ }
+{
+    match *current {
+        Some(held) => Outcome::Pushed(held),
+        None => refuse(domain, Refusal::NoCurrentFact),
+    }
+}
+
+// What an inference comes to.
+pub(crate) fn infer(domain: Domain, inference: Inference, facts: &[Fact], current: &Option<Fact>) -> Outcome
+    ensures { λ r. ⌜ r ≡ outcome domain inference (now (facts .entry)) (now (current .entry)) ⌝ }
+{
+    match inference {
+        Inference::Zero => make_current(domain, Relation::NonNegative, zero()),
+        Inference::Add(index, factor) => infer_add(domain, index, factor, facts, current),
+        Inference::Antisymmetry(index, n, m) => {
+            infer_antisymmetry(domain, index, n, m, facts, current)
+        }
+        Inference::Falsify => infer_falsify(domain, current),
+        Inference::Strengthen => infer_strengthen(domain, current),
+        Inference::Cut => infer_cut(domain, current),
+        Inference::Push => infer_push(domain, current),
+        Inference::Reflexivity(_)
+        | Inference::Transitivity(_, _)
+        | Inference::Congruence(_, _, _)
+        | Inference::Clash(_)
+        | Inference::Propagate => refuse(domain, Refusal::UnknownInference),
+    }
+}
+
+// The fact that n - m compares so with 0.
+fn keep_difference(how: Relation, n: Name, m: Name) -> Option<Fact>
+    ensures { λ r. ⌜ r ≡ apart how n m ⌝ }
+{
+    match difference(n, m) {
+        Some(row) => Some(Fact::Linear(how, row)),
+        None => None,
+    }
+}
+
+// The fact that is kept when a theory over rows is told how two names compare.
+pub(crate) fn keep_told(comparison: Comparison) -> Option<Fact>
+    ensures { λ r. ⌜ r ≡ told comparison ⌝ }
+{
+    match comparison {
+        Comparison::Equal(n, m) => keep_difference(Relation::Zero, n, m),
+        Comparison::Less(n, m) => keep_difference(Relation::Positive, m, n),
+        Comparison::Greater(n, m) => keep_difference(Relation::Positive, n, m),
     }
 }

@@ -1,7 +1,7 @@
 ghost use mathlib.Core.Path.{_≡_};
-ghost use lib.IntN.{_+ℤ_, _*ℤ_};
+ghost use lib.IntN.{pos, _+ℤ_, _-ℤ_, _*ℤ_};
 ghost use Rattle.facts.specs.Sizes.{Sized, row-limit};
-ghost use Rattle.linear.specs.Forms.{sum-row, zero-row};
+ghost use Rattle.linear.specs.Forms.{lowered, sum-row, zero-row};
 ghost use Rattle.linear.specs.Rows.{listed, coefficient};
 use facts::Row;
 use theory::Factor;
@@ -41,4 +41,18 @@ pub(crate) fn sum(a: &Row, factor: Factor, b: &Row) -> Option<Row>
 {
     let constant = sum_number(a.constant(), factor, b.constant());
     Row::new(constant, sum_coefficients(a, factor, b))
+}
+
+fn lower_number(a: i64) -> i64
+    requires { ⌜ Sized row-limit a ⌝ }
+    ensures { λ r. ⌜ r ≡ a -ℤ pos 1 ⌝ }
+{
+    a - 1
+}
+
+// The row minus 1, if its constant fits.
+pub(crate) fn lower(row: &Row) -> Option<Row>
+    ensures { λ r. ⌜ r ≡ lowered (now (row .entry)) ⌝ }
+{
+    Row::new(lower_number(row.constant()), *row.coefficients())
 }

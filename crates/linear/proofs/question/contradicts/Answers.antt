@@ -1,4 +1,6 @@
 use borrow.Author.Needs.{needs}
+use native.Mathlib.Omega.{arith}
+use Rattle.std.proofs.shelf.Signed.{ints}
 use Rattle.std.proofs.shelf.Ways.{not-from-decides}
 use Rattle.linear.specs.Forms.{contradicts?}
 use Rattle.linear.proofs.Answers.{holds-is, holds-not, contradiction-tested}
@@ -11,4 +13,4 @@ returns-then-not-is-nameless c =
 pub returns : need.returns
 returns c =
     holds-is (contradicts? (c .args .how) (c .args .row .now)) _
-    (contradiction-tested _ _ _ _ ? ? (c .compares .ensures))
+    (contradiction-tested _ _ _ _ (c .is-nameless .ensures .0 (search needs)) (omega (arith, ints)) (c .compares .ensures))
