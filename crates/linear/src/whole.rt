@@ -1,4 +1,5 @@
 ghost use Rattle.linear.specs.Rules.{admitted, row-rules};
+ghost use Rattle.linear.specs.declared.domain.Domain.{Domain};
 use crate::domain::Domain;
 use crate::question::is_linear;
 use crate::rule::infer;
