@@ -1,15 +1,15 @@
 -- The cut of a row, computed.
 use Prim.Native.Nat.{ℕ, zero, suc, _+_, _*_, _%_, _≤_, _<_}
-use mathlib.Core.Path.{_≡_, refl, sym, ap, _∙_, subst}
-use mathlib.Core.Bool.{true, false, cond}
+use mathlib.Core.Path.{_≡_, sym, ap, _∙_, subst}
+use mathlib.Core.Bool.{cond}
 use mathlib.Core.List.{List, [], _∷_}
 use mathlib.Core.Logic.{⊎-elim}
 use native.Mathlib.Nat.{mod-lt}
 use native.Mathlib.Omega.{arith}
 use lib.Dec.{eqb}
-use lib.IntN.{ℤ, pos, natAbs, _+ℤ_, _-ℤ_, _*ℤ_, +ℤ-idr, zero-*ℤ}
-use lib.ListN.{length, getD}
-use lib.Signed.{_≤ℤ_, _<ℤ_}
+use lib.IntN.{ℤ, pos, natAbs, _+ℤ_, _*ℤ_, +ℤ-idr, zero-*ℤ}
+use lib.ListN.{getD}
+use lib.Signed.{_≤ℤ_}
 use Rattle.std.proofs.shelf.Lists.{getD-past}
 use Rattle.std.proofs.shelf.Signed.{ints}
 use Rattle.std.proofs.shelf.Ways.{eqb-tells, leb-tells}
@@ -19,12 +19,12 @@ use Rattle.std.specs.declared.option.Option.the-variants.{Some, None}
 use Rattle.facts.specs.Valuations.{Valuation, row-number}
 use Rattle.facts.specs.declared.row.Row.{Row}
 use Rattle.linear.specs.Content.{Content, size-at}
-use Rattle.linear.specs.Cut.{Cut, Cut-by, Nameless}
+use Rattle.linear.specs.Cut.{Cut, Cut-by}
 use Rattle.linear.specs.Division.{Floored}
 use Rattle.linear.specs.Forms.{gcd-in, content-of, divided-by, cut-row}
 use Rattle.linear.specs.Gcd.{Divides, Greatest}
 use Rattle.linear.specs.Rows.{coefficient, listed}
-use Rattle.linear.proofs.Contents.{content-unique, zero-content, content-zero}
+use Rattle.linear.proofs.Contents.{content-unique, zero-content}
 use Rattle.linear.proofs.Cuts.{cut-by-keeps}
 use Rattle.linear.proofs.Divisors.{divides-zero, divides-through, greatest-of-zero, greatest-of-rest}
 use Rattle.linear.proofs.Floors.{euclid-floored, floored-unique, quotient-exact}

@@ -1,12 +1,12 @@
 -- Lists of 32 numbers, written one after the other.
 use Prim.Native.Nat.{ℕ, _+_, _≤_, _<_}
-use mathlib.Core.Path.{_≡_, sym, ap, _∙_}
-use mathlib.Core.List.{List, map}
+use mathlib.Core.Path.{_≡_, _∙_}
+use mathlib.Core.List.{List}
 use native.Mathlib.Omega.{arith}
 use borrow.Author.Count.{below-more}
 use lib.IntN.{ℤ, pos}
 use lib.ListN.{length, getD, set, replicate}
-use Rattle.std.proofs.shelf.Counted.{getD-map-counting, length-map-counting, fill-by-all}
+use Rattle.std.proofs.shelf.Counted.{getD-map-counting, fill-by-all}
 use Rattle.std.proofs.shelf.Lists.{getD-set-same, getD-set-other, length-set, getD-replicate, length-replicate}
 use Rattle.linear.specs.Rows.{listed}
 

@@ -2,12 +2,12 @@
 use Prim.Native.Nat.{ℕ, zero, suc, _+_, _*_, _≤_, _<_}
 use mathlib.Core.Path.{_≡_, refl, sym, ap, _∙_, subst}
 use mathlib.Core.Bool.{Bool, true, false, cond}
-use mathlib.Core.List.{List, [], _∷_}
+use mathlib.Core.List.{List}
 use mathlib.Core.Logic.{⊎-elim}
 use native.Mathlib.Nat.{zero-mul, suc-mul}
 use native.Mathlib.Omega.{arith}
-use lib.Dec.{eqb, leb, T}
-use lib.IntN.{ℤ, pos, negsuc, negℤ, _+ℤ_, _-ℤ_, _*ℤ_, +ℤ-idl, +ℤ-idr, zero-*ℤ, *ℤ-zero, *ℤ-comm}
+use lib.Dec.{T}
+use lib.IntN.{ℤ, pos, negsuc, _+ℤ_, _-ℤ_, _*ℤ_, +ℤ-idl, +ℤ-idr, zero-*ℤ, *ℤ-zero, *ℤ-comm}
 use lib.ListN.{length, getD}
 use lib.Signed.{ltZ, _≤ℤ_, _<ℤ_}
 use Rattle.std.proofs.shelf.Maps.{nth-getD, nth-past}
@@ -30,9 +30,9 @@ use Rattle.theory.specs.declared.inference.Inference.{Inference}
 use Rattle.theory.specs.declared.inference.Outcome.{Outcome}
 use Rattle.linear.specs.Cut.{Nameless}
 use Rattle.linear.specs.Deciding.{holds}
-use Rattle.linear.specs.Forms.{Difference, difference?, Contradicts, contradicts?, difference-at, difference-row, one-at, sum-row, lowered, zero-row, cut-row}
-use Rattle.linear.specs.Rows.{row-of, listed, coefficient}
-use Rattle.linear.specs.Rules.{admitted, row-rules, outcome, told, apart, refused, by-current, by-fact, whole-only, becomes, may-multiply, joined, add-rows, add-to, added, at-least, above, both-ways, falsified, strengthened, cut-becomes, divided}
+use Rattle.linear.specs.Forms.{Difference, difference?, contradicts?, difference-at, difference-row, one-at, sum-row, lowered, zero-row, cut-row}
+use Rattle.linear.specs.Rows.{listed, coefficient}
+use Rattle.linear.specs.Rules.{admitted, row-rules, outcome, told, by-current, by-fact, whole-only, becomes, may-multiply, joined, add-to, added, at-least, above, both-ways, falsified, strengthened, cut-becomes, divided}
 use Rattle.linear.specs.declared.domain.Domain.{Domain}
 use Rattle.linear.proofs.CutRows.{cut-row-keeps}
 use Rattle.linear.proofs.Floors.{factor-keeps}

@@ -13,13 +13,22 @@ pub(crate) fn zero() -> Option<Row>
     Row::new(0, [0; 32])
 }
 
-// A number and a multiple of another.
+// A multiple of a number of a row.
+fn multiple(factor: Factor, b: i64) -> i64
+    requires { ⌜ Sized row-limit b ⌝ }
+    ensures value { λ r. ⌜ r ≡ factor .value *ℤ b ⌝ }
+    ensures small { λ r. ⌜ Sized 1_000_000_000_000_000_000 r ⌝ }
+{
+    i64::from(factor.value()) * b
+}
+
+// A number of a row and a multiple of another.
 fn sum_number(a: i64, factor: Factor, b: i64) -> i64
     requires left { ⌜ Sized row-limit a ⌝ }
     requires right { ⌜ Sized row-limit b ⌝ }
     ensures { λ r. ⌜ r ≡ a +ℤ (factor .value *ℤ b) ⌝ }
 {
-    a + i64::from(factor.value()) * b
+    a + multiple(factor, b)
 }
 
 // The coefficients of a row and a multiple of another.

@@ -2,7 +2,7 @@ use borrow.Author.Needs.{needs}
 use native.Mathlib.Omega.{arith}
 use Rattle.std.proofs.shelf.Signed.{ints, toZ-ofZ}
 use Rattle.linear.specs.Forms.{difference?}
-use Rattle.linear.proofs.Answers.{holds-is, holds-not, difference-tested, no-difference}
+use Rattle.linear.proofs.Tested.{holds-is, holds-not, difference-tested, no-difference}
 use Rattle.linear.proofs.difference.is_difference.Needs as need
 
 pub returns-then-eq : need.returns-then-eq

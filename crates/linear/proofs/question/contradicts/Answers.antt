@@ -3,7 +3,7 @@ use native.Mathlib.Omega.{arith}
 use Rattle.std.proofs.shelf.Signed.{ints}
 use Rattle.std.proofs.shelf.Ways.{not-from-decides}
 use Rattle.linear.specs.Forms.{contradicts?}
-use Rattle.linear.proofs.Answers.{holds-is, holds-not, contradiction-tested}
+use Rattle.linear.proofs.Tested.{holds-is, holds-not, contradiction-tested}
 use Rattle.linear.proofs.question.contradicts.Needs as need
 
 pub returns-then-not-is-nameless : need.returns-then-not-is-nameless

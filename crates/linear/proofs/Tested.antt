@@ -1,22 +1,17 @@
--- What the functions answer.
-use Prim.Native.Nat.{ℕ, zero, suc, _+_, _*_, _≤_, _<_}
+-- What is tested of rows is what the rules ask.
+use Prim.Native.Nat.{ℕ, _*_, _≤_, _<_}
 use mathlib.Core.Path.{_≡_, refl, sym, ap, _∙_, subst}
 use mathlib.Core.Bool.{Bool, true, false, not, cond}
 use mathlib.Core.List.{List}
 use mathlib.Core.Logic.{⊎-elim}
-use native.Mathlib.Nat.{mul-le-mul-left}
 use native.Mathlib.Omega.{arith}
-use borrow.Author.Differences.{abs-is}
 use lib.Dec.{eqb}
-use lib.IntN.{ℤ, pos, negsuc, negℤ, natAbs, _+ℤ_, _-ℤ_, _*ℤ_, *ℤ-comm, *ℤ-zero}
+use lib.IntN.{ℤ, pos, _-ℤ_, _*ℤ_, *ℤ-comm, *ℤ-zero}
 use lib.ListN.{getD}
 use lib.Signed.{_≤ℤ_}
-use mir.Syntax.{w64}
-use mir.Val.{SFits, toZ, ofZ}
-use Rattle.std.proofs.shelf.Signed.{ints, toZ-ofZ}
+use Rattle.std.proofs.shelf.Signed.{ints}
 use Rattle.std.proofs.shelf.Ways.{eqb-tells, decides-like, decides-not}
 use Rattle.std.specs.Orderings.{Decides}
-use Rattle.facts.specs.Sizes.{Sized, row-limit}
 use Rattle.facts.specs.declared.fact.Relation.{Relation}
 use Rattle.facts.specs.declared.row.Row.{Row}
 use Rattle.facts.specs.declared.name.Name.{Name}
@@ -44,42 +39,6 @@ pub holds-not : {P : Type 0} (d : Dec P) → (P → ⊥) → false ≡ holds d
 unfolding holds
 holds-not (yes p) h = absurd (h p)
 holds-not (no other) h = refl
-
-size-neg : (n : ℕ) → natAbs (negℤ (pos n)) ≡ n
-size-neg zero = refl
-size-neg (suc n) = refl
-
-size-times : (a b : ℤ) → natAbs (a *ℤ b) ≡ natAbs a * natAbs b
-size-times (pos a) (pos b) = refl
-size-times (pos a) (negsuc b) = size-neg (a * suc b)
-size-times (negsuc a) (pos b) = size-neg (suc a * b)
-size-times (negsuc a) (negsuc b) = refl
-
-product-small : (c b : ℤ) → Sized 1_000_000 c → Sized row-limit b → natAbs (c *ℤ b) ≤ 1_000_000_000_000_000_000
-product-small c b h i =
-    omega (arith, size-times c b, mul-le-mul-left (natAbs c) i)
-
-size-fits : (z : ℤ) → natAbs z ≤ 2_000_000_000_000_000_000 → SFits w64 z
-size-fits (pos n) h = record { sfits = omega arith }
-size-fits (negsuc n) h = record { sfits = omega arith }
-
--- x, y and p are numbers as they are passed or stored
-pub product-fits : (x y c b : ℤ) → x ≡ c → y ≡ b → Sized 1_000_000 c → Sized row-limit b → SFits w64 (x *ℤ y)
-product-fits x y c b e f h i =
-    subst (λ z. SFits w64 (z *ℤ y)) (sym e) (subst (λ z. SFits w64 (c *ℤ z)) (sym f) (size-fits (c *ℤ b) (omega (arith, product-small c b h i))))
-
-pub product-stored : (x y c b : ℤ) → x ≡ c → y ≡ b → Sized 1_000_000 c → Sized row-limit b → toZ w64 (ofZ w64 (x *ℤ y)) ≡ c *ℤ b
-product-stored x y c b e f h i =
-    toZ-ofZ w64 (x *ℤ y) (product-fits x y c b e f h i) ∙ ap (λ z. z *ℤ y) e ∙ ap (λ z. c *ℤ z) f
-
-pub sum-fits : (x p a c b : ℤ) → x ≡ a → p ≡ c *ℤ b → Sized row-limit a → Sized 1_000_000 c → Sized row-limit b → SFits w64 (x +ℤ p)
-sum-fits x p a c b e f h i j =
-    subst (λ z. SFits w64 (z +ℤ p)) (sym e)
-    (subst (λ z. SFits w64 (a +ℤ z)) (sym f) (size-fits (a +ℤ (c *ℤ b)) (omega (arith, ints, product-small c b i j, abs-is a, abs-is (c *ℤ b), abs-is (a +ℤ (c *ℤ b))))))
-
-pub sum-stored : (x p a c b : ℤ) → x ≡ a → p ≡ c *ℤ b → Sized row-limit a → Sized 1_000_000 c → Sized row-limit b → toZ w64 (ofZ w64 (x +ℤ p)) ≡ a +ℤ (c *ℤ b)
-sum-stored x p a c b e f h i j =
-    toZ-ofZ w64 (x +ℤ p) (sum-fits x p a c b e f h i j) ∙ ap (λ z. z +ℤ p) e ∙ ap (λ z. a +ℤ z) f
 
 -- the coefficient of n in a multiple of n - m
 pub multiple-first : (x size : ℤ) (n m : Name) (k : ℕ) → x ≡ size → n .index ≡ k → (n ≡ m → ⊥) → x ≡ size *ℤ difference-at n m k
