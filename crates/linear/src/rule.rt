@@ -2,6 +2,7 @@ ghost use mathlib.Core.Path.{_≡_};
 ghost use Prim.Native.Nat.{_≤_, _<_};
 ghost use lib.ListN.{length};
 ghost use Rattle.std.specs.Options.{Cases};
+ghost use Rattle.std.specs.declared.option.Option.the-variants.{Some, None};
 ghost use Rattle.std.specs.shelf.Maps.{nth};
 ghost use Rattle.linear.specs.Rules.{refused, no-such-fact, becomes, add-to, added, both-ways, at-least, above, falsified, strengthened, divided, by-current, by-fact, whole-only, told, apart, outcome};
 use crate::cut::cut;
@@ -49,12 +50,12 @@ fn refuse_index(domain: Domain, facts: &[Fact]) -> Outcome
     })
 }
 
-fn fact_at(facts: &[Fact], index: u8) -> Option<Fact>
-    ensures which { λ r. ⌜ r ≡ nth (now (facts .entry)) index ⌝ }
+fn fact_at(facts: &[Fact], index: u8) -> Option<&Fact>
+    ensures which { λ r. ⌜ Cases r (nth (now (facts .entry)) index ≡ None) (λ x. nth (now (facts .entry)) index ≡ Some (now x)) ⌝ }
     ensures missing { λ r. ⌜ Cases r (length (now (facts .entry)) ≤ index) (λ _. index < length (now (facts .entry))) ⌝ }
 {
     let i = index as usize;
-    if i < facts.len() { Some(facts[i]) } else { None }
+    if i < facts.len() { Some(&facts[i]) } else { None }
 }
 
 // The row becomes current, if there is one.
@@ -153,11 +154,11 @@ fn divide(domain: Domain, current: &Fact) -> Outcome
 fn infer_add(domain: Domain, index: u8, factor: Factor, facts: &[Fact], current: &Option<Fact>) -> Outcome
     ensures { λ r. ⌜ r ≡ by-current domain (now (current .entry)) (λ held. by-fact domain (now (facts .entry)) (nth (now (facts .entry)) index) (added domain (factor .value) held)) ⌝ }
 {
-    let Some(held) = *current else {
+    let Some(held) = current else {
         return refuse(domain, Refusal::NoCurrentFact);
     };
     match fact_at(facts, index) {
-        Some(fact) => add(domain, factor, &held, &fact),
+        Some(fact) => add(domain, factor, held, fact),
         None => refuse_index(domain, facts),
     }
 }
@@ -165,11 +166,11 @@ fn infer_add(domain: Domain, index: u8, factor: Factor, facts: &[Fact], current:
 fn infer_antisymmetry(domain: Domain, index: u8, n: Name, m: Name, facts: &[Fact], current: &Option<Fact>) -> Outcome
     ensures { λ r. ⌜ r ≡ by-current domain (now (current .entry)) (λ held. by-fact domain (now (facts .entry)) (nth (now (facts .entry)) index) (λ fact. both-ways domain n m (at-least held) (at-least fact))) ⌝ }
 {
-    let Some(held) = *current else {
+    let Some(held) = current else {
         return refuse(domain, Refusal::NoCurrentFact);
     };
     match fact_at(facts, index) {
-        Some(fact) => antisymmetry(domain, n, m, &held, &fact),
+        Some(fact) => antisymmetry(domain, n, m, held, fact),
         None => refuse_index(domain, facts),
     }
 }
@@ -177,8 +178,8 @@ fn infer_antisymmetry(domain: Domain, index: u8, n: Name, m: Name, facts: &[Fact
 fn infer_falsify(domain: Domain, current: &Option<Fact>) -> Outcome
     ensures { λ r. ⌜ r ≡ by-current domain (now (current .entry)) (falsified domain) ⌝ }
 {
-    match *current {
-        Some(held) => falsify(domain, &held),
+    match current {
+        Some(held) => falsify(domain, held),
         None => refuse(domain, Refusal::NoCurrentFact),
     }
 }
@@ -189,8 +190,8 @@ fn infer_strengthen(domain: Domain, current: &Option<Fact>) -> Outcome
     let Domain::Whole = domain else {
         return refuse(domain, Refusal::UnknownInference);
     };
-    match *current {
-        Some(held) => strengthen(domain, &held),
+    match current {
+        Some(held) => strengthen(domain, held),
         None => refuse(domain, Refusal::NoCurrentFact),
     }
 }
@@ -201,8 +202,8 @@ fn infer_cut(domain: Domain, current: &Option<Fact>) -> Outcome
     let Domain::Whole = domain else {
         return refuse(domain, Refusal::UnknownInference);
     };
-    match *current {
-        Some(held) => divide(domain, &held),
+    match current {
+        Some(held) => divide(domain, held),
         None => refuse(domain, Refusal::NoCurrentFact),
     }
 }
@@ -210,8 +211,8 @@ fn infer_cut(domain: Domain, current: &Option<Fact>) -> Outcome
 fn infer_push(domain: Domain, current: &Option<Fact>) -> Outcome
     ensures { λ r. ⌜ r ≡ by-current domain (now (current .entry)) (λ held. Outcome.Pushed held) ⌝ }
 {
-    match *current {
-        Some(held) => Outcome::Pushed(held),
+    match current {
+        Some(held) => Outcome::Pushed(*held),
         None => refuse(domain, Refusal::NoCurrentFact),
     }
 }
