@@ -1,5 +1,7 @@
 ghost use mathlib.Core.Path.{_≡_};
+ghost use Rattle.std.specs.Options.{Cases};
 ghost use Rattle.std.specs.Orderings.{Decides};
+ghost use Rattle.std.specs.declared.option.Option.the-variants.{Some, None};
 ghost use Rattle.facts.specs.Valuations.{Compares};
 ghost use Rattle.linear.specs.Cut.{Nameless};
 ghost use Rattle.linear.specs.Deciding.{holds};
@@ -65,26 +67,26 @@ pub(crate) fn join(relation: Relation, how: Relation) -> Relation
 }
 
 // The row of a fact row >= 0.
-pub(crate) fn row_at_least(fact: &Fact) -> Option<Row>
-    ensures { λ r. ⌜ r ≡ at-least (now (fact .entry)) ⌝ }
+pub(crate) fn row_at_least(fact: &Fact) -> Option<&Row>
+    ensures { λ r. ⌜ Cases r (at-least (now (fact .entry)) ≡ None) (λ x. at-least (now (fact .entry)) ≡ Some (now x)) ⌝ }
 {
-    let Fact::Linear(how, row) = *fact else {
+    let Fact::Linear(how, row) = fact else {
         return None;
     };
-    match how {
+    match *how {
         Relation::NonNegative => Some(row),
         Relation::Positive | Relation::Zero => None,
     }
 }
 
 // The row of a fact row > 0.
-pub(crate) fn row_above(fact: &Fact) -> Option<Row>
-    ensures { λ r. ⌜ r ≡ above (now (fact .entry)) ⌝ }
+pub(crate) fn row_above(fact: &Fact) -> Option<&Row>
+    ensures { λ r. ⌜ Cases r (above (now (fact .entry)) ≡ None) (λ x. above (now (fact .entry)) ≡ Some (now x)) ⌝ }
 {
-    let Fact::Linear(how, row) = *fact else {
+    let Fact::Linear(how, row) = fact else {
         return None;
     };
-    match how {
+    match *how {
         Relation::Positive => Some(row),
         Relation::NonNegative | Relation::Zero => None,
     }

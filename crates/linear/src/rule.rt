@@ -72,13 +72,13 @@ fn make_current(domain: Domain, how: Relation, row: Option<Row>) -> Outcome
 fn add_to(domain: Domain, factor: Factor, current: &Fact, how: Relation, row: &Row) -> Outcome
     ensures { λ r. ⌜ r ≡ add-to domain (factor .value) (now (current .entry)) how (now (row .entry)) ⌝ }
 {
-    let Fact::Linear(relation, old) = *current else {
+    let Fact::Linear(relation, old) = current else {
         return refuse(domain, Refusal::ConditionFails);
     };
-    match relation {
+    match *relation {
         Relation::Zero => refuse(domain, Refusal::ConditionFails),
         Relation::NonNegative | Relation::Positive => {
-            make_current(domain, join(relation, how), sum(&old, factor, row))
+            make_current(domain, join(*relation, how), sum(old, factor, row))
         }
     }
 }
@@ -86,11 +86,11 @@ fn add_to(domain: Domain, factor: Factor, current: &Fact, how: Relation, row: &R
 fn add(domain: Domain, factor: Factor, current: &Fact, fact: &Fact) -> Outcome
     ensures { λ r. ⌜ r ≡ added domain (factor .value) (now (current .entry)) (now (fact .entry)) ⌝ }
 {
-    let Fact::Linear(how, row) = *fact else {
+    let Fact::Linear(how, row) = fact else {
         return refuse(domain, Refusal::WrongRelation);
     };
-    if may_multiply(how, factor) {
-        add_to(domain, factor, current, how, &row)
+    if may_multiply(*how, factor) {
+        add_to(domain, factor, current, *how, row)
     } else {
         refuse(domain, Refusal::MultiplierNotPositive)
     }
@@ -106,7 +106,7 @@ fn antisymmetry(domain: Domain, n: Name, m: Name, current: &Fact, fact: &Fact) -
     let Some(row) = row_at_least(current) else {
         return refuse(domain, Refusal::ConditionFails);
     };
-    if is_difference(&row, n, m) && is_difference(&below, m, n) {
+    if is_difference(row, n, m) && is_difference(below, m, n) {
         Outcome::Equal(n, m)
     } else {
         refuse(domain, Refusal::ConditionFails)
@@ -117,10 +117,10 @@ fn antisymmetry(domain: Domain, n: Name, m: Name, current: &Fact, fact: &Fact) -
 fn falsify(domain: Domain, current: &Fact) -> Outcome
     ensures { λ r. ⌜ r ≡ falsified domain (now (current .entry)) ⌝ }
 {
-    let Fact::Linear(how, row) = *current else {
+    let Fact::Linear(how, row) = current else {
         return refuse(domain, Refusal::ConditionFails);
     };
-    if contradicts(how, &row) {
+    if contradicts(*how, row) {
         Outcome::Contradiction
     } else {
         refuse(domain, Refusal::ConditionFails)
@@ -132,7 +132,7 @@ fn strengthen(domain: Domain, current: &Fact) -> Outcome
     ensures { λ r. ⌜ r ≡ strengthened domain (above (now (current .entry))) ⌝ }
 {
     match row_above(current) {
-        Some(row) => make_current(domain, Relation::NonNegative, lower(&row)),
+        Some(row) => make_current(domain, Relation::NonNegative, lower(row)),
         None => refuse(domain, Refusal::ConditionFails),
     }
 }
@@ -144,7 +144,7 @@ fn divide(domain: Domain, current: &Fact) -> Outcome
     let Some(row) = row_at_least(current) else {
         return refuse(domain, Refusal::ConditionFails);
     };
-    match cut(&row) {
+    match cut(row) {
         Some(row) => Outcome::Current(Fact::Linear(Relation::NonNegative, row)),
         None => refuse(domain, Refusal::ConditionFails),
     }
