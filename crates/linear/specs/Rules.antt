@@ -80,7 +80,7 @@ becomes d how (Some r) = Outcome.Current (Fact.Linear how r)
 
 -- ---- M: c times a row b is added to the current row a
 
--- a row that may be below 0 by a factor takes only factors above 0
+-- a row >= 0 or > 0 takes only factors above 0, and a row = 0 takes any
 abbrev pub may-multiply : Relation → ℤ → Bool
 may-multiply Relation.NonNegative c = ltZ (pos 0) c
 may-multiply Relation.Positive c = ltZ (pos 0) c

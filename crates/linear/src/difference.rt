@@ -11,6 +11,7 @@ use facts::Name;
 use facts::NameEq;
 use facts::Row;
 
+// The coefficient in n of the name with index k.
 fn one_at(n: Name, k: usize) -> i64
     ensures { λ r. ⌜ r ≡ one-at (n .index) k ⌝ }
 {
@@ -24,6 +25,7 @@ fn difference_at(n: Name, m: Name, k: usize) -> i64
     one_at(n, k) - one_at(m, k)
 }
 
+// The coefficients of n - m.
 fn difference_coefficients(n: Name, m: Name) -> [i64; 32]
     ensures { λ r. ⌜ r ≡ listed (difference-at n m) ⌝ }
 {

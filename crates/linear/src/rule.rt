@@ -50,12 +50,17 @@ fn refuse_index(domain: Domain, facts: &[Fact]) -> Outcome
     })
 }
 
+// The fact with an index.
 fn fact_at(facts: &[Fact], index: u8) -> Option<&Fact>
     ensures which { λ r. ⌜ Cases r (nth (now (facts .entry)) index ≡ None) (λ x. nth (now (facts .entry)) index ≡ Some (now x)) ⌝ }
     ensures missing { λ r. ⌜ Cases r (length (now (facts .entry)) ≤ index) (λ _. index < length (now (facts .entry))) ⌝ }
 {
     let i = index as usize;
-    if i < facts.len() { Some(&facts[i]) } else { None }
+    if i < facts.len() {
+        Some(&facts[i])
+    } else {
+        None
+    }
 }
 
 // The row becomes current, if there is one.
@@ -83,6 +88,7 @@ fn add_to(domain: Domain, factor: Factor, current: &Fact, how: Relation, row: &R
     }
 }
 
+// M, at the current fact and another.
 fn add(domain: Domain, factor: Factor, current: &Fact, fact: &Fact) -> Outcome
     ensures { λ r. ⌜ r ≡ added domain (factor .value) (now (current .entry)) (now (fact .entry)) ⌝ }
 {
@@ -150,8 +156,14 @@ fn divide(domain: Domain, current: &Fact) -> Outcome
     }
 }
 
-// The rules that need a current fact.
-fn infer_add(domain: Domain, index: u8, factor: Factor, facts: &[Fact], current: &Option<Fact>) -> Outcome
+// M.
+fn infer_add(
+    domain: Domain,
+    index: u8,
+    factor: Factor,
+    facts: &[Fact],
+    current: &Option<Fact>,
+) -> Outcome
     ensures { λ r. ⌜ r ≡ by-current domain (now (current .entry)) (λ held. by-fact domain (now (facts .entry)) (nth (now (facts .entry)) index) (added domain (factor .value) held)) ⌝ }
 {
     let Some(held) = current else {
@@ -163,7 +175,15 @@ fn infer_add(domain: Domain, index: u8, factor: Factor, facts: &[Fact], current:
     }
 }
 
-fn infer_antisymmetry(domain: Domain, index: u8, n: Name, m: Name, facts: &[Fact], current: &Option<Fact>) -> Outcome
+// Q.
+fn infer_antisymmetry(
+    domain: Domain,
+    index: u8,
+    n: Name,
+    m: Name,
+    facts: &[Fact],
+    current: &Option<Fact>,
+) -> Outcome
     ensures { λ r. ⌜ r ≡ by-current domain (now (current .entry)) (λ held. by-fact domain (now (facts .entry)) (nth (now (facts .entry)) index) (λ fact. both-ways domain n m (at-least held) (at-least fact))) ⌝ }
 {
     let Some(held) = current else {
@@ -175,6 +195,7 @@ fn infer_antisymmetry(domain: Domain, index: u8, n: Name, m: Name, facts: &[Fact
     }
 }
 
+// F.
 fn infer_falsify(domain: Domain, current: &Option<Fact>) -> Outcome
     ensures { λ r. ⌜ r ≡ by-current domain (now (current .entry)) (falsified domain) ⌝ }
 {
@@ -184,6 +205,7 @@ fn infer_falsify(domain: Domain, current: &Option<Fact>) -> Outcome
     }
 }
 
+// I, over whole numbers alone.
 fn infer_strengthen(domain: Domain, current: &Option<Fact>) -> Outcome
     ensures { λ r. ⌜ r ≡ whole-only domain (by-current domain (now (current .entry)) (λ held. strengthened domain (above held))) ⌝ }
 {
@@ -196,6 +218,7 @@ fn infer_strengthen(domain: Domain, current: &Option<Fact>) -> Outcome
     }
 }
 
+// U, over whole numbers alone.
 fn infer_cut(domain: Domain, current: &Option<Fact>) -> Outcome
     ensures { λ r. ⌜ r ≡ whole-only domain (by-current domain (now (current .entry)) (λ held. divided domain (at-least held))) ⌝ }
 {
@@ -208,6 +231,7 @@ fn infer_cut(domain: Domain, current: &Option<Fact>) -> Outcome
     }
 }
 
+// P.
 fn infer_push(domain: Domain, current: &Option<Fact>) -> Outcome
     ensures { λ r. ⌜ r ≡ by-current domain (now (current .entry)) (λ held. Outcome.Pushed held) ⌝ }
 {
@@ -218,7 +242,12 @@ fn infer_push(domain: Domain, current: &Option<Fact>) -> Outcome
 }
 
 // What an inference comes to.
-pub(crate) fn infer(domain: Domain, inference: Inference, facts: &[Fact], current: &Option<Fact>) -> Outcome
+pub(crate) fn infer(
+    domain: Domain,
+    inference: Inference,
+    facts: &[Fact],
+    current: &Option<Fact>,
+) -> Outcome
     ensures { λ r. ⌜ r ≡ outcome domain inference (now (facts .entry)) (now (current .entry)) ⌝ }
 {
     match inference {

@@ -52,6 +52,7 @@ pub(crate) fn sum(a: &Row, factor: Factor, b: &Row) -> Option<Row>
     Row::new(constant, sum_coefficients(a, factor, b))
 }
 
+// A number of a row minus 1.
 fn lower_number(a: i64) -> i64
     requires { ⌜ Sized row-limit a ⌝ }
     ensures { λ r. ⌜ r ≡ a -ℤ pos 1 ⌝ }
