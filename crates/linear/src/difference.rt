@@ -76,10 +76,12 @@ fn all_multiples(coefficients: &[i64; 32], size: i64, n: Name, m: Name) -> bool
 pub(crate) fn is_difference(row: &Row, n: Name, m: Name) -> bool
     ensures { λ r. ⌜ r ≡ holds (difference? (now (row .entry)) n m) ⌝ }
 {
-    if n == m {
+    let same = n == m;
+    if same {
         return false;
     }
-    if row.constant() != 0 {
+    let constant: i64 = row.constant();
+    if constant != 0 {
         return false;
     }
     let size = row.coefficient(n);

@@ -5,8 +5,8 @@ use Rattle.linear.specs.Forms.{difference?}
 use Rattle.linear.proofs.Tested.{holds-is, holds-not, difference-tested, no-difference}
 use Rattle.linear.proofs.difference.is_difference.Needs as need
 
-pub returns-then-eq : need.returns-then-eq
-returns-then-eq c =
+pub returns-then-same : need.returns-then-same
+returns-then-same c =
     holds-not (difference? (c .args .row .now) (c .args .n) (c .args .m)) (no-difference _ _ _ (search needs))
 
 pub returns-then-constant-ne0 : need.returns-then-constant-ne0
