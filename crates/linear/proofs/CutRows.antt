@@ -23,12 +23,12 @@ use Rattle.linear.specs.Cut.{Cut, Cut-by}
 use Rattle.linear.specs.Division.{Floored}
 use Rattle.linear.specs.Forms.{gcd-in, content-of, divided-by, cut-row}
 use Rattle.linear.specs.Gcd.{Divides, Greatest}
-use Rattle.linear.specs.Rows.{coefficient, listed}
+use Rattle.linear.specs.Rows.{coefficient, listed, getD-listed}
 use Rattle.linear.proofs.Contents.{content-unique, zero-content}
 use Rattle.linear.proofs.Cuts.{cut-by-keeps}
 use Rattle.linear.proofs.Divisors.{divides-zero, divides-through, greatest-of-zero, greatest-of-rest}
 use Rattle.linear.proofs.Floors.{euclid-floored, floored-unique, quotient-exact}
-use Rattle.linear.proofs.Listed.{getD-listed, listed-is}
+use Rattle.linear.proofs.Listed.{listed-is}
 use Rattle.linear.proofs.RowsMade.{row-of-made, row-of-some}
 
 -- with more steps than the second number, the greatest common divisor is reached

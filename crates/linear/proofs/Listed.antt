@@ -6,13 +6,9 @@ use native.Mathlib.Omega.{arith}
 use borrow.Author.Count.{below-more}
 use lib.IntN.{ℤ, pos}
 use lib.ListN.{length, getD, set, replicate}
-use Rattle.std.proofs.shelf.Counted.{getD-map-counting, fill-by-all}
+use Rattle.std.proofs.shelf.Counted.{fill-by-all}
 use Rattle.std.proofs.shelf.Lists.{getD-set-same, getD-set-other, length-set, getD-replicate, length-replicate}
 use Rattle.linear.specs.Rows.{listed}
-
-pub getD-listed : (f : ℕ → ℤ) (k : ℕ) → k < 32 → getD (listed f) k (pos 0) ≡ f k
-unfolding listed
-getD-listed f k h = getD-map-counting f 0 32 k k (pos 0) h (omega arith)
 
 pub listed-is : (f : ℕ → ℤ) (zs : List ℤ) → length zs ≡ 32 → ((k : ℕ) → k < 32 → getD zs k (pos 0) ≡ f k) → zs ≡ listed f
 unfolding listed

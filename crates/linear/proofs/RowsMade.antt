@@ -68,3 +68,11 @@ row-of-made c cs r e = made c cs (fits? c cs) r e
 pub row-made : (c z : ℤ) (cs zs : List ℤ) (o : Option Row) → Cases o (Sized row-limit z → All-sized row-limit zs → ⊥) (λ r. (r .constant ≡ z) × (r .coefficients ≡ zs)) → z ≡ c → zs ≡ cs → o ≡ row-of c cs
 row-made c z cs zs None h e f = sym (row-of-none z zs h) ∙ ap (λ x. row-of x zs) e ∙ ap (λ xs. row-of c xs) f
 row-made c z cs zs (Some r) h e f = sym (row-of-some c cs r (h .0 ∙ e) (h .1 ∙ f))
+
+-- numbers that fit have a row
+pub row-of-with : (c : ℤ) (cs : List ℤ) (f : Fits c cs) → row-of c cs ≡ Some (row-with c cs f)
+unfolding row-of
+row-of-with c cs f = found c cs f (fits? c cs)
+
+pub row-fitted : (c z : ℤ) (cs zs : List ℤ) (f : Fits c cs) (o : Option Row) → Cases o (Sized row-limit z → All-sized row-limit zs → ⊥) (λ r. (r .constant ≡ z) × (r .coefficients ≡ zs)) → z ≡ c → zs ≡ cs → o ≡ Some (row-with c cs f)
+row-fitted c z cs zs f o h e g = row-made c z cs zs o h e g ∙ row-of-with c cs f

@@ -13,7 +13,7 @@ use lib.Signed.{ltZ, _≤ℤ_, _<ℤ_}
 use Rattle.std.proofs.shelf.Maps.{nth-getD, nth-past}
 use Rattle.std.proofs.shelf.Signed.{ints}
 use Rattle.std.proofs.shelf.Ways.{eqb-tells, leb-tells}
-use Rattle.std.specs.Options.{Cases, mapped}
+use Rattle.std.specs.Options.{Cases}
 use Rattle.std.specs.shelf.Maps.{nth}
 use Rattle.std.specs.declared.option.Option.{Option}
 use Rattle.std.specs.declared.option.Option.the-variants.{Some, None}
@@ -31,12 +31,11 @@ use Rattle.theory.specs.declared.inference.Outcome.{Outcome}
 use Rattle.linear.specs.Cut.{Nameless}
 use Rattle.linear.specs.Deciding.{holds}
 use Rattle.linear.specs.Forms.{Difference, difference?, contradicts?, difference-at, difference-row, one-at, sum-row, lowered, zero-row, cut-row}
-use Rattle.linear.specs.Rows.{listed, coefficient}
+use Rattle.linear.specs.Rows.{listed, row-with, coefficient, getD-listed}
 use Rattle.linear.specs.Rules.{admitted, row-rules, outcome, told, by-current, by-fact, whole-only, becomes, may-multiply, joined, add-to, added, at-least, above, both-ways, falsified, strengthened, cut-becomes, divided}
 use Rattle.linear.specs.declared.domain.Domain.{Domain}
 use Rattle.linear.proofs.CutRows.{cut-row-keeps}
 use Rattle.linear.proofs.Floors.{factor-keeps}
-use Rattle.linear.proofs.Listed.{getD-listed}
 use Rattle.linear.proofs.RowsMade.{row-of-made}
 
 -- ---- products
@@ -126,10 +125,10 @@ module _ (v : Valuation) where
       ∙ ap (λ z. z -ℤ weighed (one-at (m .index))) (one-sum n)
       ∙ ap (λ z. value n -ℤ z) (one-sum m)
 
-  pub difference-number : (n m : Name) (r : Row) → difference-row n m ≡ Some r → row-number v r ≡ value n -ℤ value m
-  difference-number n m r e =
-      let (first, rest) = row-of-made _ _ r e in
-      number-listed r (pos 0) (difference-at n m) first rest
+  pub difference-number : (n m : Name) → row-number v (difference-row n m) ≡ value n -ℤ value m
+  unfolding row-with
+  difference-number n m =
+      number-listed (difference-row n m) (pos 0) (difference-at n m) refl refl
       ∙ ap (λ z. z +ℤ weighed (difference-at n m)) (zero-*ℤ q)
       ∙ +ℤ-idl (weighed (difference-at n m))
       ∙ difference-sum n m
@@ -288,10 +287,10 @@ module _ (v : Valuation) where
   whole-only-true Domain.Whole o admits h = h admits
 
   -- O
-  zero-number : (r : Row) → zero-row ≡ Some r → row-number v r ≡ pos 0
-  zero-number r e =
-      let (first, rest) = row-of-made _ _ r e in
-      number-listed r (pos 0) (λ k. pos 0) first rest
+  zero-number : row-number v zero-row ≡ pos 0
+  unfolding row-with
+  zero-number =
+      number-listed zero-row (pos 0) (λ k. pos 0) refl refl
       ∙ ap (λ z. z +ℤ weighed (λ k. pos 0)) (zero-*ℤ q)
       ∙ +ℤ-idl (weighed (λ k. pos 0))
       ∙ sum-zero 32 _ (λ k _. zero-*ℤ (v .numerator k))
@@ -302,8 +301,7 @@ module _ (v : Valuation) where
   infers d admits (Inference.Congruence i at turned) fs current all h = tt
   infers d admits (Inference.Clash i) fs current all h = tt
   infers d admits Inference.Propagate fs current all h = tt
-  infers d admits Inference.Zero fs current all h =
-      becomes-true d Relation.NonNegative zero-row (λ r made. let none : row-number v r ≡ pos 0 = zero-number r made in omega (arith, ints))
+  infers d admits Inference.Zero fs current all h = subst (λ z. pos 0 ≤ℤ z) (sym zero-number) (omega (arith, ints))
   infers d admits (Inference.Add i c) fs current all h =
       by-current-true d current _ h
       (λ x true-x. by-fact-true d fs (nth fs i) _ (λ y e. added-true d (c .value) x y true-x (found-true fs i y all e)))
@@ -321,17 +319,10 @@ module _ (v : Valuation) where
 
   -- ---- tellings
 
-  kept-true : (how : Relation) (o : Option Row) → ((r : Row) → o ≡ Some r → Compares how (row-number v r)) → Cases (mapped (λ r. Fact.Linear how r) o) (Unit {0}) (True v)
-  kept-true how None h = tt
-  kept-true how (Some r) h = h r refl
-
   pub told-true : (k : Comparison) → Compared v k → Cases (told k) (Unit {0}) (True v)
-  told-true (Comparison.Equal n m) h =
-      kept-true Relation.Zero (difference-row n m) (λ r made. let e : row-number v r ≡ value n -ℤ value m = difference-number n m r made in omega (arith, ints))
-  told-true (Comparison.Less n m) h =
-      kept-true Relation.Positive (difference-row m n) (λ r made. let e : row-number v r ≡ value m -ℤ value n = difference-number m n r made in omega (arith, ints))
-  told-true (Comparison.Greater n m) h =
-      kept-true Relation.Positive (difference-row n m) (λ r made. let e : row-number v r ≡ value n -ℤ value m = difference-number n m r made in omega (arith, ints))
+  told-true (Comparison.Equal n m) h = subst (λ z. z ≡ pos 0) (sym (difference-number n m)) (omega (arith, ints))
+  told-true (Comparison.Less n m) h = subst (λ z. pos 0 <ℤ z) (sym (difference-number m n)) (omega (arith, ints))
+  told-true (Comparison.Greater n m) h = subst (λ z. pos 0 <ℤ z) (sym (difference-number n m)) (omega (arith, ints))
 
 -- both theories are sound
 pub row-sound : (d : Domain) → Sound (admitted d) (row-rules d)

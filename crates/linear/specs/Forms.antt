@@ -1,7 +1,7 @@
 -- What the rules make of rows, and what they ask of them.
 use Prim.Native.Nat.{ℕ, zero, suc, _%_, _<_}
 use mathlib.Core.Path.{_≡_}
-use mathlib.Core.Bool.{cond}
+use mathlib.Core.Bool.{Bool, true, false, cond}
 use mathlib.Core.List.{List, [], _∷_}
 use mathlib.Core.Logic.{⊎-elim}
 use native.Mathlib.Omega.{arith}
@@ -13,16 +13,21 @@ use Rattle.std.specs.declared.option.Option.{Option}
 use Rattle.std.specs.declared.option.Option.the-variants.{None}
 use Rattle.std.proofs.shelf.Lists.{getD-past}
 use Rattle.std.proofs.shelf.Ways.{leb-tells}
+use Rattle.facts.specs.Sizes.{Sized, row-limit}
 use Rattle.facts.specs.Valuations.{Compares}
 use Rattle.facts.specs.declared.fact.Relation.{Relation}
 use Rattle.facts.specs.declared.name.Name.{Name}
 use Rattle.facts.specs.declared.row.Row.{Row}
 use Rattle.linear.specs.Cut.{Nameless}
 use Rattle.linear.specs.Deciding.{at-most?, less?, equal?, each-below?}
-use Rattle.linear.specs.Rows.{row-of, listed, coefficient}
+use Rattle.linear.specs.Rows.{Fits, row-of, row-with, listed, listed-fits, coefficient}
 
-abbrev pub zero-row : Option Row
-zero-row = row-of (pos 0) (listed (λ k. pos 0))
+-- the row 0
+pub zero-fits : Fits (pos 0) (listed (λ k. pos 0))
+zero-fits = listed-fits (pos 0) (λ k. pos 0) (omega arith) (λ k _. omega arith)
+
+abbrev pub zero-row : Row
+zero-row = row-with (pos 0) (listed (λ k. pos 0)) zero-fits
 
 -- a + c b
 abbrev pub sum-row : Row → ℤ → Row → Option Row
@@ -39,8 +44,19 @@ one-at n k = cond (eqb n k) (pos 1) (pos 0)
 abbrev pub difference-at : Name → Name → ℕ → ℤ
 difference-at n m k = one-at (n .index) k -ℤ one-at (m .index) k
 
-abbrev pub difference-row : Name → Name → Option Row
-difference-row n m = row-of (pos 0) (listed (difference-at n m))
+difference-small : (a b : Bool) → Sized row-limit (cond a (pos 1) (pos 0) -ℤ cond b (pos 1) (pos 0))
+difference-small true true = omega arith
+difference-small true false = omega arith
+difference-small false true = omega arith
+difference-small false false = omega arith
+
+pub difference-fits : (n m : Name) → Fits (pos 0) (listed (difference-at n m))
+difference-fits n m =
+    listed-fits (pos 0) (difference-at n m) (omega arith) (λ k _. difference-small (eqb (n .index) k) (eqb (m .index) k))
+
+-- n - m
+abbrev pub difference-row : Name → Name → Row
+difference-row n m = row-with (pos 0) (listed (difference-at n m)) (difference-fits n m)
 
 -- the row is c n - c m, for a c of at least 1; so n and m are two names, and c is the coefficient
 -- of n

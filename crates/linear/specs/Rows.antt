@@ -1,11 +1,12 @@
 -- Rows by their numbers.
-use Prim.Native.Nat.{ℕ}
-use mathlib.Core.Path.{_≡_}
+use Prim.Native.Nat.{ℕ, _<_}
+use mathlib.Core.Path.{_≡_, sym, subst}
 use mathlib.Core.List.{List, map}
 use mathlib.Core.Logic.{⊎-elim}
 use native.Mathlib.Omega.{arith}
 use lib.IntN.{ℤ, pos, natAbs}
 use lib.ListN.{length, getD}
+use Rattle.std.proofs.shelf.Counted.{getD-map-counting, length-map-counting}
 use Rattle.std.proofs.shelf.Ways.{eqb-tells, leb-tells}
 use Rattle.std.specs.Iters.{counting}
 use Rattle.std.specs.declared.option.Option.{Option}
@@ -24,6 +25,22 @@ pub record Fits (constant : ℤ) (coefficients : List ℤ) : Type 0 where
   pub long : length coefficients ≡ 32
   pub sized : Sized row-limit constant
   pub all-sized : All-sized row-limit coefficients
+
+length-listed : (f : ℕ → ℤ) → length (listed f) ≡ 32
+unfolding listed
+length-listed f = length-map-counting f 0 32
+
+pub getD-listed : (f : ℕ → ℤ) (k : ℕ) → k < 32 → getD (listed f) k (pos 0) ≡ f k
+unfolding listed
+getD-listed f k h = getD-map-counting f 0 32 k k (pos 0) h (omega arith)
+
+pub listed-fits : (c : ℤ) (f : ℕ → ℤ) → Sized row-limit c → ((k : ℕ) → k < 32 → Sized row-limit (f k)) → Fits c (listed f)
+listed-fits c f h small =
+    record {
+      long = length-listed f;
+      sized = h;
+      all-sized = all-sized-below row-limit (listed f) 32 (omega (arith, length-listed f)) (λ k below. subst (λ z. Sized row-limit z) (sym (getD-listed f k below)) (small k below));
+    }
 
 sized? : (z : ℤ) → Dec (Sized row-limit z)
 sized? z = ⊎-elim (λ h. yes (h .1)) (λ h. no (λ k. omega (arith, h .1))) (leb-tells (natAbs z) row-limit)

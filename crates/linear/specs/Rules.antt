@@ -6,7 +6,6 @@ use mathlib.Core.List.{List}
 use lib.IntN.{ℤ, pos}
 use lib.ListN.{length}
 use lib.Signed.{ltZ}
-use Rattle.std.specs.Options.{mapped}
 use Rattle.std.specs.shelf.Maps.{nth}
 use Rattle.std.specs.declared.option.Option.{Option}
 use Rattle.std.specs.declared.option.Option.the-variants.{Some, None}
@@ -40,14 +39,11 @@ keeps (Fact.Equal t u) = false
 keeps (Fact.Distinct t u) = false
 keeps (Fact.Linear how r) = true
 
--- n - m compares so with 0
-abbrev pub apart : Relation → Name → Name → Option Fact
-apart how n m = mapped (λ r. Fact.Linear how r) (difference-row n m)
-
+-- told how two names compare, it keeps how their difference compares with 0
 abbrev pub told : Comparison → Option Fact
-told (Comparison.Equal n m) = apart Relation.Zero n m
-told (Comparison.Less n m) = apart Relation.Positive m n
-told (Comparison.Greater n m) = apart Relation.Positive n m
+told (Comparison.Equal n m) = Some (Fact.Linear Relation.Zero (difference-row n m))
+told (Comparison.Less n m) = Some (Fact.Linear Relation.Positive (difference-row m n))
+told (Comparison.Greater n m) = Some (Fact.Linear Relation.Positive (difference-row n m))
 
 -- ---- refusals
 
@@ -161,7 +157,7 @@ outcome d (Inference.Transitivity i turned) fs current = refused d Refusal.Unkno
 outcome d (Inference.Congruence i at turned) fs current = refused d Refusal.UnknownInference
 outcome d (Inference.Clash i) fs current = refused d Refusal.UnknownInference
 outcome d Inference.Propagate fs current = refused d Refusal.UnknownInference
-outcome d Inference.Zero fs current = becomes d Relation.NonNegative zero-row
+outcome d Inference.Zero fs current = Outcome.Current (Fact.Linear Relation.NonNegative zero-row)
 outcome d (Inference.Add i c) fs current = by-current d current (λ now. by-fact d fs (nth fs i) (added d (c .value) now))
 outcome d (Inference.Antisymmetry i n m) fs current =
     by-current d current (λ now. by-fact d fs (nth fs i) (λ fact. both-ways d n m (at-least now) (at-least fact)))

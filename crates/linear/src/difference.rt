@@ -37,10 +37,10 @@ fn difference_coefficients(n: Name, m: Name) -> [i64; 32]
 }
 
 // The row n - m.
-pub(crate) fn difference(n: Name, m: Name) -> Option<Row>
+pub(crate) fn difference(n: Name, m: Name) -> Row
     ensures { λ r. ⌜ r ≡ difference-row n m ⌝ }
 {
-    Row::new(0, difference_coefficients(n, m))
+    Row::new(0, difference_coefficients(n, m)).unwrap()
 }
 
 // The coefficient in size n - size m of the name with index k.

@@ -4,7 +4,7 @@ ghost use lib.ListN.{length};
 ghost use Rattle.std.specs.Options.{Cases};
 ghost use Rattle.std.specs.declared.option.Option.the-variants.{Some, None};
 ghost use Rattle.std.specs.shelf.Maps.{nth};
-ghost use Rattle.linear.specs.Rules.{refused, no-such-fact, becomes, add-to, added, both-ways, at-least, above, falsified, strengthened, divided, by-current, by-fact, whole-only, told, apart, outcome};
+ghost use Rattle.linear.specs.Rules.{refused, no-such-fact, becomes, add-to, added, both-ways, at-least, above, falsified, strengthened, divided, by-current, by-fact, whole-only, told, outcome};
 use crate::cut::cut;
 use crate::difference::difference;
 use crate::difference::is_difference;
@@ -251,7 +251,7 @@ pub(crate) fn infer(
     ensures { λ r. ⌜ r ≡ outcome domain inference (now (facts .entry)) (now (current .entry)) ⌝ }
 {
     match inference {
-        Inference::Zero => make_current(domain, Relation::NonNegative, zero()),
+        Inference::Zero => Outcome::Current(Fact::Linear(Relation::NonNegative, zero())),
         Inference::Add(index, factor) => infer_add(domain, index, factor, facts, current),
         Inference::Antisymmetry(index, n, m) => {
             infer_antisymmetry(domain, index, n, m, facts, current)
@@ -268,23 +268,13 @@ pub(crate) fn infer(
     }
 }
 
-// The fact that n - m compares so with 0.
-fn keep_difference(how: Relation, n: Name, m: Name) -> Option<Fact>
-    ensures { λ r. ⌜ r ≡ apart how n m ⌝ }
-{
-    match difference(n, m) {
-        Some(row) => Some(Fact::Linear(how, row)),
-        None => None,
-    }
-}
-
 // The fact that is kept when a theory over rows is told how two names compare.
 pub(crate) fn keep_told(comparison: Comparison) -> Option<Fact>
     ensures { λ r. ⌜ r ≡ told comparison ⌝ }
 {
     match comparison {
-        Comparison::Equal(n, m) => keep_difference(Relation::Zero, n, m),
-        Comparison::Less(n, m) => keep_difference(Relation::Positive, m, n),
-        Comparison::Greater(n, m) => keep_difference(Relation::Positive, n, m),
+        Comparison::Equal(n, m) => Some(Fact::Linear(Relation::Zero, difference(n, m))),
+        Comparison::Less(n, m) => Some(Fact::Linear(Relation::Positive, difference(m, n))),
+        Comparison::Greater(n, m) => Some(Fact::Linear(Relation::Positive, difference(n, m))),
     }
 }

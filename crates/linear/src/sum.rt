@@ -7,10 +7,10 @@ use facts::Row;
 use theory::Factor;
 
 // The row 0.
-pub(crate) fn zero() -> Option<Row>
+pub(crate) fn zero() -> Row
     ensures { λ r. ⌜ r ≡ zero-row ⌝ }
 {
-    Row::new(0, [0; 32])
+    Row::new(0, [0; 32]).unwrap()
 }
 
 // A multiple of a number of a row.
