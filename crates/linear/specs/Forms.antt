@@ -22,10 +22,10 @@ use Rattle.linear.specs.Cut.{Nameless}
 use Rattle.linear.specs.Deciding.{at-most?, less?, equal?, each-below?}
 use Rattle.linear.specs.Rows.{Fits, row-of, row-with, listed, listed-fits, coefficient}
 
--- the row 0
 pub zero-fits : Fits (pos 0) (listed (λ k. pos 0))
 zero-fits = listed-fits (pos 0) (λ k. pos 0) (omega arith) (λ k _. omega arith)
 
+-- the row 0
 abbrev pub zero-row : Row
 zero-row = row-with (pos 0) (listed (λ k. pos 0)) zero-fits
 
@@ -37,10 +37,11 @@ sum-row a c b = row-of (a .constant +ℤ (c *ℤ b .constant)) (listed (λ k. co
 abbrev pub lowered : Row → Option Row
 lowered r = row-of (r .constant -ℤ pos 1) (r .coefficients)
 
--- the coefficients of n - m; where n is m, all are 0
+-- 1 at the index n, else 0
 abbrev pub one-at : ℕ → ℕ → ℤ
 one-at n k = cond (eqb n k) (pos 1) (pos 0)
 
+-- the coefficients of n - m; where n is m, all are 0
 abbrev pub difference-at : Name → Name → ℕ → ℤ
 difference-at n m k = one-at (n .index) k -ℤ one-at (m .index) k
 

@@ -28,6 +28,7 @@ use theory::Factor;
 use theory::Inference;
 use theory::Outcome;
 
+// A refusal of this theory.
 fn refuse(domain: Domain, refusal: Refusal) -> Outcome
     ensures { λ r. ⌜ r ≡ refused domain refusal ⌝ }
 {

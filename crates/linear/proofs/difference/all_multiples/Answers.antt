@@ -1,7 +1,6 @@
 use borrow.Author.Count.{below-more}
-use borrow.Author.Needs.{needs}
 use native.Mathlib.Omega.{arith}
-use Rattle.std.proofs.shelf.Signed.{ints, toZ-ofZ}
+use Rattle.std.proofs.shelf.Signed.{toZ-ofZ}
 use Rattle.linear.proofs.difference.all_multiples.Needs as need
 
 pub loop-i-again : need.loop-i-again

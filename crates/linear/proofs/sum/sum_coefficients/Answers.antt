@@ -1,6 +1,5 @@
 use native.Mathlib.Omega.{arith}
-use borrow.Author.Needs.{needs}
-use Rattle.std.proofs.shelf.Signed.{ints, toZ-ofZ}
+use Rattle.std.proofs.shelf.Signed.{toZ-ofZ}
 use Rattle.linear.proofs.Listed.{listed-more, listed-all}
 use Rattle.linear.proofs.sum.sum_coefficients.Needs as need
 
