@@ -50,7 +50,7 @@ told (Comparison.Greater n m) = Some (Fact.Linear Relation.Positive (difference-
 abbrev pub refused : Domain → Refusal → Outcome
 refused d why = Outcome.Refused (record { refusal = why; detail = 0; theory = theory-number d })
 
--- told with how many facts there are
+-- with how many facts there are as its detail
 abbrev pub no-such-fact : Domain → List Fact → Outcome
 no-such-fact d fs = Outcome.Refused (record { refusal = Refusal.NoSuchFact; detail = length fs; theory = theory-number d })
 
