@@ -11,14 +11,14 @@ ghost use Rattle.claim.specs.Derivations.{Room-told, all-dropped, branch-from,
 ghost use Rattle.claim.specs.Sent.{Step-checked};
 ghost use Rattle.claim.specs.Stacks.{stack-splits};
 ghost use Rattle.std.specs.declared.result.Result.the-variants.{Ok};
-ghost use Rattle.claim.specs.declared.sent.SentStep.{SentStep};
-ghost use Rattle.claim.specs.declared.step.Step.{Step};
 ghost use Rattle.claim.specs.Derived.{state-of, Branch-begun, Handed-on, Stepped, Split-answer};
 use crate::counts::Counts;
 use crate::stack::Stack;
 use crate::stack::methods::MOST_SPLITS;
+use crate::sent::SentStep;
 use crate::step::Branch;
 use crate::step::OpenSplit;
+use crate::step::Step;
 use facts::CallFault;
 use facts::Cause;
 use facts::Comparison;
@@ -175,5 +175,33 @@ impl<T: Theory> Derivation<T> {
         let _ = self.stack.push(OpenSplit { left, right, branch: Branch::First });
         self.counts.add_split();
         Ok(())
+    }
+
+    // Takes a step.
+    pub fn step(&mut self, step: SentStep) -> Result<(), CallFault>
+        ensures { λ r. ⌜ (Fit (T·Theory .rules) (state-of (T·Theory .places) (now (self .entry))) → Stepped (T·Theory .places) (T·Theory .rules) step r (now (self .entry)) (now (self .exit))) ⌝ }
+    {
+        if self.closed {
+            return Err(CallFault {
+                cause: because(Refusal::AlreadyClosed),
+                address: step.address(),
+                place: self.counts.place(),
+                depth: 0,
+            });
+        }
+        let checked = match step.check() {
+            Ok(checked) => checked,
+            Err(byte) => {
+                let cause = Cause { refusal: Refusal::FieldOutOfRange, detail: byte, theory: 0 };
+                return Err(self.fault(cause, step.address()));
+            }
+        };
+        if self.counts.is_full() {
+            return Err(self.fault(because(Refusal::TooManyCalls), step.address()));
+        }
+        match checked {
+            Step::Infer(address, inference) => self.infer(address, inference),
+            Step::Split(left, right) => self.split(left, right),
+        }
     }
 }

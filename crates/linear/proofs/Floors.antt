@@ -11,7 +11,7 @@ use Rattle.facts.proofs.Integers.{minus-times}
 use Rattle.linear.specs.Division.{Floored}
 use Rattle.linear.specs.Gcd.{Divides}
 
-euclid-floored : (a b : ℤ) → pos 1 ≤ℤ b → Floored a b (divEuclid a b) (remEuclid a b)
+pub euclid-floored : (a b : ℤ) → pos 1 ≤ℤ b → Floored a b (divEuclid a b) (remEuclid a b)
 euclid-floored (pos a) (pos b) h =
     let below : a % b < b = mod-lt a (omega (arith, ints)) in
     record {
@@ -70,3 +70,12 @@ quotient-exact a g q r h f =
 pub factor-keeps : (t : ℤ) (g : ℕ) (r : ℤ) → r <ℤ pos g → pos 0 ≤ℤ ((t *ℤ pos g) +ℤ r) → pos 0 ≤ℤ t
 factor-keeps (pos t) g r high h = omega (arith, ints)
 factor-keeps (negsuc t) g r high h = absurd (omega (arith, ints, suc-mul t g))
+
+-- the laws say which quotient it is
+pub floored-unique : (a : ℤ) (g : ℕ) (p q r s : ℤ) → Floored a (pos g) p r → Floored a (pos g) q s → p ≡ q
+floored-unique a g p q r s e f =
+    let apart : (p -ℤ q) *ℤ pos g ≡ (p *ℤ pos g) -ℤ (q *ℤ pos g) = minus-times p q (pos g) in
+    let back : (q -ℤ p) *ℤ pos g ≡ (q *ℤ pos g) -ℤ (p *ℤ pos g) = minus-times q p (pos g) in
+    let low : pos 0 ≤ℤ (p -ℤ q) = factor-keeps (p -ℤ q) g r (e .high) (omega (arith, ints, e .whole, f .whole, f .low)) in
+    let high : pos 0 ≤ℤ (q -ℤ p) = factor-keeps (q -ℤ p) g s (f .high) (omega (arith, ints, e .whole, f .whole, e .low)) in
+    omega (arith, ints)

@@ -1,6 +1,8 @@
+ghost use mathlib.Core.Path.{_≡_};
 ghost use lib.IntN.{pos};
 ghost use lib.Signed.{_≤ℤ_};
 ghost use Rattle.linear.specs.Cut.{Cut, Keeps, Quotients};
+ghost use Rattle.linear.specs.Forms.{cut-row};
 use crate::content::content;
 use crate::division::floor_div;
 use facts::Row;
@@ -21,6 +23,7 @@ fn quotients(numbers: &[i64; 32], by: i64) -> [i64; 32]
 // The row divided by the content of its coefficients, its constant rounded down; none if no name
 // is left in it. The numbers only get smaller, so the row can be made.
 pub(crate) fn cut(row: &Row) -> Option<Row>
+    ensures made { λ r. ⌜ r ≡ cut-row (now (row .entry)) ⌝ }
     ensures which { λ r. ⌜ Cut (now (row .entry)) r ⌝ }
     ensures sound { λ r. ⌜ Keeps (now (row .entry)) r ⌝ }
 {

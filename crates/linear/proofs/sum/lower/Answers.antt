@@ -1,0 +1,10 @@
+use native.Mathlib.Omega.{arith}
+use mir.Syntax.{w64}
+use mir.Val.{toZ, ofZ}
+use Rattle.std.proofs.shelf.Signed.{toZ-ofZ}
+use Rattle.linear.proofs.RowsMade.{row-made}
+use Rattle.linear.proofs.sum.lower.Needs as need
+
+pub returns : need.returns
+returns c =
+    row-made _ (toZ w64 (ofZ w64 (c .lower-number .result))) _ _ _ (c .new .ensures) (grind (arith, toZ-ofZ)) (c .coefficients .ensures)
