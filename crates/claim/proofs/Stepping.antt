@@ -20,7 +20,8 @@ use Rattle.claim.specs.Calls.{Answer, Step-call, because, fault-of, Fit, most-
 use Rattle.claim.specs.Counted.{place-of, Step-counted, Counted}
 use Rattle.claim.specs.Derivations.{State, closed, working, next, Leaves-fact, Room-told, all-dropped, changed-at, branch-from, most-splits}
 use Rattle.claim.specs.Derived.{state-of, Stepped, Handed-on, Split-answer}
-use Rattle.claim.specs.Sent.{Step-checked}
+use Rattle.facts.specs.Fields.{first-bad}
+use Rattle.claim.specs.Sent.{Step-checked, step-fields, step-address}
 use Rattle.claim.specs.Stacks.{stack-splits}
 use Rattle.claim.specs.declared.derivation.Derivation.{Derivation}
 use Rattle.claim.specs.declared.sent.SentStep.{SentStep}
@@ -107,3 +108,23 @@ module _ {T : Type 0} (places-of : T → Places) (book : Book) (d : Derivation T
           counted = counted;
           same = tt;
         }
+
+-- a call that is refused before the theory is asked
+module _ {T : Type 0} (places-of : T → Places) (book : Book) (d : Derivation T) (s : SentStep) (f : CallFault) where
+  kept : (g : CallFault) (st : State) → f ≡ g → state-of places-of d ≡ st → Step-call book (place-of (d .counts)) s st (Err g) None st → Stepped places-of book s (Err f) d d
+  kept g st is state call =
+      record {
+        taken = None;
+        call = subst (λ x. Step-call book (place-of (d .counts)) s x (Err f) None x) (sym state) (subst (λ x. Step-call book (place-of (d .counts)) s st (Err x) None st) (sym is) call);
+        counted = refl;
+        same = refl;
+      }
+
+  pub stepped-over : d .closed ≡ true → f ≡ fault-of (because Refusal.AlreadyClosed 0) (step-address s) (place-of (d .counts)) 0 → Stepped places-of book s (Err f) d d
+  stepped-over shut is = kept _ closed is (ap (λ c. cond c closed (working (places-of (d .theory)) (stack-splits (d .stack)))) shut) Step-call.over
+
+  pub stepped-bad : (b : ℕ) → d .closed ≡ false → f ≡ fault-of (because Refusal.FieldOutOfRange b) (step-address s) (place-of (d .counts)) (length (stack-splits (d .stack))) → first-bad (step-fields s) ≡ Some b → Stepped places-of book s (Err f) d d
+  stepped-bad b is-open is bad = kept _ (working (places-of (d .theory)) (stack-splits (d .stack))) is (is-working places-of book d is-open) (Step-call.bad-field b bad)
+
+  pub stepped-many : d .closed ≡ false → f ≡ fault-of (because Refusal.TooManyCalls 0) (step-address s) (place-of (d .counts)) (length (stack-splits (d .stack))) → first-bad (step-fields s) ≡ None → most-calls ≤ place-of (d .counts) → Stepped places-of book s (Err f) d d
+  stepped-many is-open is good many = kept _ (working (places-of (d .theory)) (stack-splits (d .stack))) is (is-working places-of book d is-open) (Step-call.too-many good many)
