@@ -7,5 +7,6 @@ pub mod Moves
 pub mod Parts
 pub mod Soundness
 pub mod Stacks
+pub mod Standing
 pub mod Stepping
 pub mod Tellings

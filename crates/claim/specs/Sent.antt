@@ -11,6 +11,9 @@ use Rattle.std.specs.declared.result.Result.the-variants.{Ok, Err}
 use Rattle.facts.specs.Fields.{Field, field, first-bad, term-fields, sent}
 use Rattle.theory.specs.declared.inference.Inference.{Inference}
 use Rattle.theory.specs.declared.inference.Position.{Position}
+use Rattle.theory.specs.declared.factor.Factor.{Factor}
+use Rattle.facts.specs.declared.name.Name.{Name}
+use Rattle.facts.specs.declared.term.Term.{Term}
 use Rattle.claim.specs.declared.sent.SentStep.{SentStep}
 use Rattle.claim.specs.declared.step.Step.{Step}
 
@@ -53,25 +56,22 @@ abbrev pub position-byte : Position → ℕ
 position-byte Position.First = 1
 position-byte Position.Second = 2
 
--- what an inference at an address is sent as
-abbrev pub sent-inference : ℕ → Inference → SentStep
-sent-inference a (Inference.Reflexivity t) = SentStep.Reflexivity a (sent t)
-sent-inference a (Inference.Transitivity i turned) = SentStep.Transitivity a i (flag-byte turned)
-sent-inference a (Inference.Congruence i position turned) = SentStep.Congruence a i (position-byte position) (flag-byte turned)
-sent-inference a (Inference.Clash i) = SentStep.Clash a i
-sent-inference a Inference.Propagate = SentStep.Propagate a
-sent-inference a Inference.Zero = SentStep.Zero a
-sent-inference a (Inference.Add i c) = SentStep.Add a i (c .value)
-sent-inference a (Inference.Antisymmetry i n m) = SentStep.Antisymmetry a i (n .index) (m .index)
-sent-inference a Inference.Falsify = SentStep.Falsify a
-sent-inference a Inference.Strengthen = SentStep.Strengthen a
-sent-inference a Inference.Cut = SentStep.Cut a
-sent-inference a Inference.Push = SentStep.Push a
-
-abbrev pub sent-step : Step → SentStep
-sent-step (Step.Infer a i) = sent-inference a i
-sent-step (Step.Split n m) = SentStep.Split (n .index) (m .index)
+-- the step that fields stand for
+abbrev pub Stands-for : SentStep → Step → Type 0
+Stands-for (SentStep.Reflexivity a t) x = (u : Term) × (x ≡ Step.Infer a (Inference.Reflexivity u)) × (sent u ≡ t)
+Stands-for (SentStep.Transitivity a i turned) x = (b : Bool) × (x ≡ Step.Infer a (Inference.Transitivity i b)) × (flag-byte b ≡ turned)
+Stands-for (SentStep.Congruence a i position turned) x = (p : Position) × (b : Bool) × (x ≡ Step.Infer a (Inference.Congruence i p b)) × (position-byte p ≡ position) × (flag-byte b ≡ turned)
+Stands-for (SentStep.Clash a i) x = x ≡ Step.Infer a (Inference.Clash i)
+Stands-for (SentStep.Propagate a) x = x ≡ Step.Infer a Inference.Propagate
+Stands-for (SentStep.Zero a) x = x ≡ Step.Infer a Inference.Zero
+Stands-for (SentStep.Add a i c) x = (f : Factor) × (x ≡ Step.Infer a (Inference.Add i f)) × (f .value ≡ c)
+Stands-for (SentStep.Antisymmetry a i first second) x = (n : Name) × (m : Name) × (x ≡ Step.Infer a (Inference.Antisymmetry i n m)) × (n .index ≡ first) × (m .index ≡ second)
+Stands-for (SentStep.Falsify a) x = x ≡ Step.Infer a Inference.Falsify
+Stands-for (SentStep.Strengthen a) x = x ≡ Step.Infer a Inference.Strengthen
+Stands-for (SentStep.Cut a) x = x ≡ Step.Infer a Inference.Cut
+Stands-for (SentStep.Push a) x = x ≡ Step.Infer a Inference.Push
+Stands-for (SentStep.Split first second) x = (n : Name) × (m : Name) × (x ≡ Step.Split n m) × (n .index ≡ first) × (m .index ≡ second)
 
 abbrev pub Step-checked : SentStep → Result Step ℕ → Type 0
-Step-checked s (Ok t) = (first-bad (step-fields s) ≡ None) × (sent-step t ≡ s)
+Step-checked s (Ok t) = (first-bad (step-fields s) ≡ None) × Stands-for s t
 Step-checked s (Err b) = first-bad (step-fields s) ≡ Some b
