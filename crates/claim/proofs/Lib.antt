@@ -5,6 +5,7 @@ pub mod Levels
 pub mod Literals
 pub mod Moves
 pub mod Parts
+pub mod Promises
 pub mod Soundness
 pub mod Stacks
 pub mod Standing
