@@ -1,5 +1,6 @@
 pub mod Branches
 pub mod Finishing
+pub mod Fitness
 pub mod Inversion
 pub mod Levels
 pub mod Literals
