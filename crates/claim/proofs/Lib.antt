@@ -1,4 +1,5 @@
 pub mod Branches
+pub mod Extending
 pub mod Finishing
 pub mod Fitness
 pub mod Inversion

@@ -1,7 +1,7 @@
 -- What a derivation stands for.
 use mathlib.Core.Path.{_≡_}
 use mathlib.Core.Bool.{Bool, true, false, cond}
-use mathlib.Core.List.{_∷_}
+use mathlib.Core.List.{List, [], _∷_, _++_}
 use mathlib.Core.Logic.{_⊎_}
 use Prim.Native.Nat.{ℕ}
 use lib.ListN.{length}
@@ -12,11 +12,14 @@ use Rattle.facts.specs.declared.name.Name.{Name}
 use Rattle.facts.specs.declared.refusal.Refusal.{Refusal}
 use Rattle.facts.specs.declared.fact.Comparison.{Comparison}
 use Rattle.theory.specs.Rules.{Book, Full, telling-wanted}
-use Rattle.claim.specs.Calls.{Answer, Step-call, because, fault-of}
+use Rattle.claim.specs.Calls.{Answer, Step-call, because, fault-of, Levelled}
 use Rattle.claim.specs.Counted.{place-of, Step-counted, Counted}
 use Rattle.theory.specs.Places.{Places}
 use Rattle.claim.specs.Derivations.{State, closed, working, Room-told, told, branch-from, by-branch, in-branch}
+use Rattle.claim.specs.Histories.{Literals-sent, Steps-sent, splits-in, listed}
 use Rattle.claim.specs.Stacks.{stack-splits}
+use Rattle.claim.specs.declared.opening.Claim.{Claim}
+use Rattle.facts.specs.declared.literal.Literal.{Literal}
 use Rattle.claim.specs.declared.derivation.Derivation.{Derivation}
 use Rattle.claim.specs.declared.step.Branch.{Branch}
 use Rattle.claim.specs.declared.sent.SentStep.{SentStep}
@@ -70,3 +73,18 @@ pub record Stepped {T : Type 0} (places : T → Places) (book : Book) (s : SentS
 abbrev pub Split-answer : Book → Places → Name → Name → Option Refusal → Type 0
 Split-answer book ps n m None = Room-told book (Comparison.Less n m) ps × Room-told book (Comparison.Equal n m) ps × Room-told book (Comparison.Greater n m) ps
 Split-answer book ps n m (Some r) = (r ≡ Refusal.TableFull) × (Full ps (telling-wanted book (Comparison.Less n m)) ⊎ (Full ps (telling-wanted book (Comparison.Equal n m)) ⊎ Full ps (telling-wanted book (Comparison.Greater n m))))
+
+-- ---- a claim and a derivation after a history of calls
+
+pub record Claimed {T : Type 0} (places : T → Places) (book : Book) (c : Claim T) (ls : List Literal) (rs : List Answer) (taken : List Literal) : Type 0 where
+  pub sent : Literals-sent book ls rs (places (c .theory)) taken
+  pub counted-literals : c .counts .literals ≡ length taken
+  pub counted-steps : c .counts .steps ≡ 0
+  pub counted-splits : c .counts .splits ≡ 0
+
+pub record Reached {T : Type 0} (places : T → Places) (book : Book) (d : Derivation T) (ps : Places) (literals : List Literal) (ss : List SentStep) (rs : List Answer) (taken : List Step) : Type 0 where
+  pub sent : Steps-sent book ps (length literals) ss rs (state-of places d) taken
+  pub level : Levelled 0 ps
+  pub counted-literals : d .counts .literals ≡ length literals
+  pub counted-steps : d .counts .steps ≡ length taken
+  pub counted-splits : d .counts .splits ≡ splits-in taken

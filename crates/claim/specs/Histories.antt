@@ -56,3 +56,14 @@ pub record Promise (admits : Valuation → Type 0) (book : Book) (ps : Places) (
   -- exactly so: it is closed exactly if the steps taken are the whole writing of a derivation
   pub closed-by : st ≡ closed → Derives book 0 ps steps
   pub closes : Derives book 0 ps steps → st ≡ closed
+
+-- how many of the steps are splits
+abbrev pub splits-in : List Step → ℕ
+splits-in [] = 0
+splits-in (Step.Infer a i ∷ w) = splits-in w
+splits-in (Step.Split n m ∷ w) = splits-in w + 1
+
+-- the promise after each of the calls
+abbrev pub Throughout : (admits : Valuation → Type 0) (book : Book) (ps : Places) (literals : List Literal) (ss : List SentStep) (rs : List Answer) (st : State) (steps : List Step) → Steps-sent book ps (length literals) ss rs st steps → Type 0
+Throughout admits book ps literals ss rs st steps Steps-sent.none = Promise admits book ps literals (working ps []) []
+Throughout admits book ps literals ss rs st steps (Steps-sent.more {ss = before} {rs = answers} {st = was} {taken = done} s a t after h call) = Throughout admits book ps literals before answers was done h × Promise admits book ps literals after (done ++ listed t)

@@ -2,16 +2,21 @@
 ghost use mathlib.Core.Path.{_≡_};
 ghost use Prim.Native.Nat.{ℕ, suc, _<_};
 ghost use mathlib.Core.Bool.{false};
+ghost use mathlib.Core.List.{List, [], _∷_, _++_};
+ghost use Rattle.facts.specs.declared.literal.Literal.{Literal};
+ghost use Rattle.std.specs.declared.option.Option.{Option};
+ghost use Rattle.theory.specs.Places.{Places};
+ghost use Rattle.claim.specs.Histories.{listed};
 ghost use lib.ListN.{length};
 ghost use Rattle.std.specs.Orderings.{When};
 ghost use Rattle.facts.specs.declared.fact.Comparison.{Comparison};
-ghost use Rattle.claim.specs.Calls.{Levelled, Ready, Fit, fault-of, because};
+ghost use Rattle.claim.specs.Calls.{Answer, Levelled, Ready, Fit, fault-of, because};
 ghost use Rattle.claim.specs.Counted.{place-of};
 ghost use Rattle.claim.specs.Derivations.{Room-told, all-dropped, branch-from, next, working};
 ghost use Rattle.claim.specs.Sent.{Step-checked};
 ghost use Rattle.claim.specs.Stacks.{stack-splits};
 ghost use Rattle.std.specs.declared.result.Result.the-variants.{Ok};
-ghost use Rattle.claim.specs.Derived.{state-of, Branch-begun, Handed-on, Stepped, Split-answer};
+ghost use Rattle.claim.specs.Derived.{state-of, Branch-begun, Handed-on, Stepped, Split-answer, Reached};
 use crate::counts::Counts;
 use crate::stack::Stack;
 use crate::stack::methods::MOST_SPLITS;
@@ -58,6 +63,14 @@ fn end_branch<T: Theory>(theory: &mut T)
 }
 
 impl<T: Theory> Derivation<T> {
+    // No split is open, and no step was taken.
+    pub(crate) fn new(theory: T, counts: Counts) -> Derivation<T>
+        ensures state { λ r. ⌜ state-of (T·Theory .places) r ≡ working (T·Theory .places theory) [] ⌝ }
+        ensures counts { λ r. ⌜ r .counts ≡ counts ⌝ }
+    {
+        Derivation { theory, stack: Stack::new(), closed: false, counts }
+    }
+
     // Begins the branch after the one that a split was in; false where that was the last.
     fn next_branch(&mut self, split: OpenSplit) -> bool
         ensures begun { λ r. ⌜ (Levelled (length (stack-splits (now (self .entry) .stack))) (T·Theory .places (now (self .entry) .theory)) → length (stack-splits (now (self .entry) .stack)) < 8 → Room-told (T·Theory .rules) (Comparison.Equal (split .left) (split .right)) (T·Theory .places (now (self .entry) .theory)) → Room-told (T·Theory .rules) (Comparison.Greater (split .left) (split .right)) (T·Theory .places (now (self .entry) .theory)) → Branch-begun (T·Theory .places) (T·Theory .rules) split r (now (self .entry)) (now (self .exit))) ⌝ }
@@ -177,8 +190,16 @@ impl<T: Theory> Derivation<T> {
         Ok(())
     }
 
-    // Takes a step.
+    // Takes a step. Where a history of calls led here, this call goes on with it.
     pub fn step(&mut self, step: SentStep) -> Result<(), CallFault>
+        ensures call { λ r. ⌜ (Fit (T·Theory .rules) (state-of (T·Theory .places) (now (self .entry))) → Stepped (T·Theory .places) (T·Theory .rules) step r (now (self .entry)) (now (self .exit))) ⌝ }
+        ensures history { λ r. ⌜ ((ps : Places) (literals : List Literal) (ss : List SentStep) (rs : List Answer) (taken : List Step) → Reached (T·Theory .places) (T·Theory .rules) (now (self .entry)) ps literals ss rs taken → (t : Option Step) × Reached (T·Theory .places) (T·Theory .rules) (now (self .exit)) ps literals (ss ++ (step ∷ [])) (rs ++ (r ∷ [])) (taken ++ listed t)) ⌝ }
+    {
+        self.take(step)
+    }
+
+    // The same, by its call alone.
+    fn take(&mut self, step: SentStep) -> Result<(), CallFault>
         ensures { λ r. ⌜ (Fit (T·Theory .rules) (state-of (T·Theory .places) (now (self .entry))) → Stepped (T·Theory .places) (T·Theory .rules) step r (now (self .entry)) (now (self .exit))) ⌝ }
     {
         if self.closed {

@@ -1,13 +1,18 @@
 // A claim that takes literals.
 ghost use mathlib.Core.Path.{_≡_};
+ghost use mathlib.Core.List.{List, [], _∷_, _++_};
 ghost use Prim.Native.Nat.{ℕ};
 ghost use Rattle.std.specs.Options.{mapped};
 ghost use Rattle.std.specs.declared.result.Result.the-variants.{Ok, Err};
 ghost use Rattle.theory.specs.Places.{empty};
-ghost use Rattle.claim.specs.Calls.{Literal-call, refusal-of};
+ghost use Rattle.claim.specs.Calls.{Answer, Literal-call, refusal-of};
 ghost use Rattle.claim.specs.Counted.{place-of, Nothing-counted};
+ghost use Rattle.claim.specs.Derivations.{working};
+ghost use Rattle.claim.specs.Derived.{state-of, Claimed, Reached};
+ghost use Rattle.claim.specs.Histories.{if-taken};
 ghost use Rattle.claim.specs.Views.{Literal-taken};
 use crate::counts::Counts;
+use crate::derivation::Derivation;
 use facts::CallFault;
 use facts::Cause;
 use facts::Literal;
@@ -32,12 +37,22 @@ impl<T: Theory> Claim<T> {
     pub fn open() -> Claim<T>
         ensures places { λ r. ⌜ ((a : ℕ) → T·Theory .places (r .theory) a ≡ mapped (λ _. empty) (T·Theory .rules a)) ⌝ }
         ensures counts { λ r. ⌜ Nothing-counted (r .counts) ⌝ }
+        ensures history { λ r. ⌜ Claimed (T·Theory .places) (T·Theory .rules) r [] [] [] ⌝ }
     {
         Claim { theory: T::fresh(), counts: Counts::none() }
     }
 
     // Takes a literal.
     pub fn literal(&mut self, literal: Literal) -> Result<(), CallFault>
+        ensures call { λ r. ⌜ Literal-call (T·Theory .rules) (T·Theory .places (now (self .entry) .theory)) (place-of (now (self .entry) .counts)) literal r (T·Theory .places (now (self .exit) .theory)) ⌝ }
+        ensures after { λ r. ⌜ Literal-taken r (now (self .entry)) (now (self .exit)) ⌝ }
+        ensures history { λ r. ⌜ ((ls : List Literal) (rs : List Answer) (taken : List Literal) → Claimed (T·Theory .places) (T·Theory .rules) (now (self .entry)) ls rs taken → Claimed (T·Theory .places) (T·Theory .rules) (now (self .exit)) (ls ++ (literal ∷ [])) (rs ++ (r ∷ [])) (taken ++ if-taken r literal)) ⌝ }
+    {
+        self.take(literal)
+    }
+
+    // The same, by its call alone.
+    fn take(&mut self, literal: Literal) -> Result<(), CallFault>
         ensures call { λ r. ⌜ Literal-call (T·Theory .rules) (T·Theory .places (now (self .entry) .theory)) (place-of (now (self .entry) .counts)) literal r (T·Theory .places (now (self .exit) .theory)) ⌝ }
         ensures after { λ r. ⌜ Literal-taken r (now (self .entry)) (now (self .exit)) ⌝ }
     {
@@ -56,5 +71,15 @@ impl<T: Theory> Claim<T> {
             }
             Err(refusal) => Err(because(refusal, 0, place)),
         }
+    }
+
+    // Turns the claim into a derivation, in which no literal can be taken any more.
+    pub fn begin(self) -> Derivation<T>
+        ensures state { λ r. ⌜ state-of (T·Theory .places) r ≡ working (T·Theory .places (self .theory)) [] ⌝ }
+        ensures counts { λ r. ⌜ r .counts ≡ self .counts ⌝ }
+        ensures history { λ r. ⌜ ((ls : List Literal) (rs : List Answer) (taken : List Literal) → Claimed (T·Theory .places) (T·Theory .rules) self ls rs taken → Reached (T·Theory .places) (T·Theory .rules) r (T·Theory .places (self .theory)) taken [] [] []) ⌝ }
+    {
+        let Claim { theory, counts } = self;
+        Derivation::new(theory, counts)
     }
 }

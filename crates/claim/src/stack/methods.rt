@@ -7,15 +7,20 @@ ghost use Rattle.std.specs.Orderings.{When};
 ghost use Rattle.claim.specs.Stacks.{stack-splits};
 ghost use Rattle.claim.specs.Popped.{Popped};
 use super::Stack;
+use crate::step::Branch;
 use crate::step::OpenSplit;
+use facts::Name;
 
 // How many splits may be open at a time.
 pub const MOST_SPLITS: usize = 8;
 
 impl Stack {
-    pub fn new(filler: OpenSplit) -> Stack
+    // No open split. What the unused rows hold does not matter.
+    pub fn new() -> Stack
         ensures { λ r. ⌜ stack-splits r ≡ [] ⌝ }
     {
+        let name = Name::new(0).unwrap();
+        let filler = OpenSplit { left: name, right: name, branch: Branch::First };
         Stack { rows: [filler; 8], used: 0 }
     }
 

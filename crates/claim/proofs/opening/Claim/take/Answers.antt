@@ -1,0 +1,40 @@
+use borrow.Author.Needs.{needs}
+use mathlib.Core.Path.{refl, sym, ap, subst}
+use native.Mathlib.Omega.{arith}
+use Rattle.std.proofs.shelf.Ways.{tells}
+use Rattle.std.specs.declared.result.Result.the-variants.{Err}
+use Rattle.claim.specs.Calls.{Literal-call}
+use Rattle.claim.specs.Counted.{place-of}
+use Rattle.claim.proofs.Literals.{bad-field, too-many, not-kept, same-claim}
+use Rattle.claim.proofs.opening.Claim.take.Needs as need
+
+pub returns-in-Err : need.returns-in-Err
+returns-in-Err g c =
+    record {
+      call = bad-field (g .T·Theory .rules) (g .T·Theory .places (c .args .self .now .theory)) (place-of (c .args .self .now .counts)) (c .args .literal) _ (c .place-place .ensures) _ _ (c .because .ensures) (c .in-Err .ensures tt);
+      after = refl;
+    }
+
+pub returns-then-is-full : need.returns-then-is-full
+returns-then-is-full g c =
+    record {
+      call = too-many (g .T·Theory .rules) (g .T·Theory .places (c .args .self .now .theory)) (place-of (c .args .self .now .counts)) (c .args .literal) _ (c .place-place .ensures) _ _ (c .because-then-is-full .ensures) (c .in-Ok .ensures tt) (grind (arith, tells));
+      after = refl;
+    }
+
+pub returns-in-Ok-assume : need.returns-in-Ok-assume
+returns-in-Ok-assume g c =
+    record {
+      call = Literal-call.taken _ _ (c .in-Ok .ensures tt) (grind (arith, tells)) (c .in-Ok-assume .ensures tt .0) (c .in-Ok-assume .ensures tt .1);
+      after = c .add-literal .ensures;
+    }
+
+pub returns-in-Err-assume : need.returns-in-Err-assume
+returns-in-Err-assume g c =
+    let h = c .in-Err-assume .ensures tt in
+    let ps = g .T·Theory .places (c .args .self .now .theory) in
+    let place = place-of (c .args .self .now .counts) in
+    record {
+      call = subst (λ t. Literal-call (g .T·Theory .rules) ps place (c .args .literal) (Err (c .because-in-Err-assume .result)) (g .T·Theory .places t)) (sym (h .1)) (not-kept (g .T·Theory .rules) ps place (c .args .literal) _ (c .place-place .ensures) _ _ _ (c .because-in-Err-assume .ensures) (c .in-Ok .ensures tt) (grind (arith, tells)) (h .0));
+      after = same-claim (c .args .self .now) _ (h .1);
+    }
