@@ -2,6 +2,7 @@ pub mod Calls
 pub mod Counted
 pub mod Derivations
 pub mod Derived
+pub mod Endings
 pub mod Histories
 pub mod Popped
 pub mod Sent

@@ -16,10 +16,13 @@ ghost use Rattle.claim.specs.Derivations.{Room-told, all-dropped, branch-from,
 ghost use Rattle.claim.specs.Sent.{Step-checked};
 ghost use Rattle.claim.specs.Stacks.{stack-splits};
 ghost use Rattle.std.specs.declared.result.Result.the-variants.{Ok};
+ghost use Rattle.claim.specs.Endings.{Ended};
 ghost use Rattle.claim.specs.Derived.{state-of, Branch-begun, Handed-on, Stepped, Split-answer, Reached};
 use crate::counts::Counts;
 use crate::stack::Stack;
 use crate::stack::methods::MOST_SPLITS;
+use crate::seal::Ending;
+use crate::seal::Seal;
 use crate::sent::SentStep;
 use crate::step::Branch;
 use crate::step::OpenSplit;
@@ -223,6 +226,19 @@ impl<T: Theory> Derivation<T> {
         match checked {
             Step::Infer(address, inference) => self.infer(address, inference),
             Step::Split(left, right) => self.split(left, right),
+        }
+    }
+}
+
+impl<T: Theory + Drop> Derivation<T> {
+    // Uses the derivation up: a seal if it is closed, else the number of branches left.
+    pub fn end(self) -> Ending
+        ensures { λ r. ⌜ Ended (state-of (T·Theory .places) self) (self .counts) r ⌝ }
+    {
+        if self.closed {
+            Ending::Sealed(Seal::new(&self.counts))
+        } else {
+            Ending::Open(1 + self.stack.unbegun())
         }
     }
 }

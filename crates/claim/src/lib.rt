@@ -2,12 +2,15 @@
 mod counts;
 mod derivation;
 mod opening;
+mod seal;
 mod sent;
 mod stack;
 mod step;
 
 pub use derivation::Derivation;
 pub use opening::Claim;
+pub use seal::Ending;
+pub use seal::Seal;
 pub use sent::SentStep;
 pub use step::Branch;
 pub use step::OpenSplit;

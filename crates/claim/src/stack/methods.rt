@@ -5,6 +5,8 @@ ghost use lib.ListN.{length};
 ghost use Rattle.std.specs.Options.{Cases};
 ghost use Rattle.std.specs.Orderings.{When};
 ghost use Rattle.claim.specs.Stacks.{stack-splits};
+ghost use Rattle.claim.specs.Derivations.{by-branch};
+ghost use Rattle.claim.specs.Endings.{unbegun};
 ghost use Rattle.claim.specs.Popped.{Popped};
 use super::Stack;
 use crate::step::Branch;
@@ -54,5 +56,30 @@ impl Stack {
         let top = self.used - 1;
         self.used = top;
         Some(self.rows[top])
+    }
+
+    // How many branches of the open splits are not begun.
+    pub fn unbegun(&self) -> u32
+        ensures value { λ r. ⌜ r ≡ unbegun (stack-splits (now (self .entry))) ⌝ }
+        ensures bound { λ r. ⌜ r ≤ 16 ⌝ }
+    {
+        let mut rest = *self;
+        let mut total = 0;
+        while let Some(split) = rest.pop() {
+            total += waiting(split.branch);
+        }
+        total
+    }
+}
+
+// How many branches of a split come after this one.
+fn waiting(branch: Branch) -> u32
+    ensures value { λ r. ⌜ r ≡ by-branch branch 2 1 0 ⌝ }
+    ensures bound { λ r. ⌜ r ≤ 2 ⌝ }
+{
+    match branch {
+        Branch::First => 2,
+        Branch::Second => 1,
+        Branch::Third => 0,
     }
 }
