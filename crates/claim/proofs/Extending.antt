@@ -72,3 +72,13 @@ reached-more places-of book c d s r ps literals ss rs taken step h =
       counted-steps = counts .1;
       counted-splits = counts .2;
     })
+
+-- ---- along a slice
+
+pub claimed-at : {T : Type 0} (places-of : T → Places) (book : Book) (c : Claim T) (ls ms : List Literal) (rs qs : List Answer) (taken : List Literal) → ls ≡ ms → rs ≡ qs → Claimed places-of book c ms qs taken → (t : List Literal) × Claimed places-of book c ls rs t
+claimed-at places-of book c ls ms rs qs taken e f h =
+    (taken, subst (λ x. Claimed places-of book c x rs taken) (sym e) (subst (λ x. Claimed places-of book c ms x taken) (sym f) h))
+
+pub reached-at : {T : Type 0} (places-of : T → Places) (book : Book) (d : Derivation T) (ps : Places) (literals : List Literal) (ss us : List SentStep) (rs qs : List Answer) (taken : List Step) → ss ≡ us → rs ≡ qs → Reached places-of book d ps literals us qs taken → (t : List Step) × Reached places-of book d ps literals ss rs t
+reached-at places-of book d ps literals ss us rs qs taken e f h =
+    (taken, subst (λ x. Reached places-of book d ps literals x rs taken) (sym e) (subst (λ x. Reached places-of book d ps literals us x taken) (sym f) h))

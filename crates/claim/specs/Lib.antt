@@ -5,6 +5,7 @@ pub mod Derived
 pub mod Endings
 pub mod Histories
 pub mod Popped
+pub mod Replays
 pub mod Sent
 pub mod Stacks
 pub mod Views

@@ -2,6 +2,7 @@
 mod counts;
 mod derivation;
 mod opening;
+mod run;
 mod seal;
 mod sent;
 mod stack;
@@ -9,6 +10,8 @@ mod step;
 
 pub use derivation::Derivation;
 pub use opening::Claim;
+pub use run::Transcript;
+pub use run::replay;
 pub use seal::Ending;
 pub use seal::Seal;
 pub use sent::SentStep;
