@@ -63,15 +63,16 @@ step-counts (Some (Step.Split n m)) c d taken h e f =
 pub reached-more : {T : Type 0} (places-of : T → Places) (book : Book) (c d : Derivation T) (s : SentStep) (r : Answer) (ps : Places) (literals : List Literal) (ss : List SentStep) (rs : List Answer) (taken : List Step) → Stepped places-of book s r c d → Reached places-of book c ps literals ss rs taken → (t : Option Step) × Reached places-of book d ps literals (ss ++ (s ∷ [])) (rs ++ (r ∷ [])) (taken ++ listed t)
 reached-more places-of book c d s r ps literals ss rs taken step h =
     let counts = step-counts (step .taken) (c .counts) (d .counts) taken (step .counted) (h .counted-steps) (h .counted-splits) in
-    let place : place-of (c .counts) ≡ length literals + length taken = omega (arith, h .counted-literals, h .counted-steps) in
-    (step .taken,
-    record {
-      sent = Steps-sent.more s r (step .taken) (state-of places-of d) (h .sent) (subst (λ n. Step-call book n s (state-of places-of c) r (step .taken) (state-of places-of d)) place (step .call));
-      level = h .level;
-      counted-literals = counts .0 ∙ h .counted-literals;
-      counted-steps = counts .1;
-      counted-splits = counts .2;
-    })
+    let place : place-of (c .counts) ≡ length literals + length taken = omega (arith, h .counted-literals, h .counted-steps) in (
+      step .taken,
+      record {
+        sent = Steps-sent.more s r (step .taken) (state-of places-of d) (h .sent) (subst (λ n. Step-call book n s (state-of places-of c) r (step .taken) (state-of places-of d)) place (step .call));
+        level = h .level;
+        counted-literals = counts .0 ∙ h .counted-literals;
+        counted-steps = counts .1;
+        counted-splits = counts .2;
+      },
+    )
 
 -- ---- along a slice
 

@@ -78,7 +78,7 @@ module _ (book : Book) where
     took-contradiction a i h =
         same-trans _ _ _ (first (Step.Infer a i))
         (same-trans _ _ _ (then-left (λ u. D ps (Step.Infer a i ∷ u)) (λ u. u ≡ []) W (after-contradiction book (length ss) ps a i h))
-          (same-trans _ _ _ (then-none W) (next-left ss (all-dropped ps))))
+        (same-trans _ _ _ (then-none W) (next-left ss (all-dropped ps))))
 
     pub took-fact : (a : ℕ) (i : Inference) → Leaves-fact (outcome-at book ps a i) → Same (λ w. Finishes book ps ss (Step.Infer a i ∷ w)) (Finishes book (changed-at a (outcome-at book ps a i) ps) ss)
     took-fact a i h =
@@ -94,11 +94,11 @@ module _ (book : Book) where
     took-split n m few less equal greater =
         subst (λ x. Same F (Then L (Then (Then (B x) (B (branch-from book g down))) (Waiting book ss (all-dropped down))))) (sym (again e l ps))
         (subst (λ x. Same F (Then L (Then (Then (B (branch-from book e ps)) (B x)) (Waiting book ss (all-dropped down))))) (sym (again g l ps))
-          (subst (λ x. Same F (Then L (Then (Then (B (branch-from book e ps)) (B (branch-from book g ps))) (Waiting book ss x)))) (sym (dropped-twice book l ps))
-            (same-trans F (Then (λ u. D ps (Step.Split n m ∷ u)) W) (Then L (Then (Then (B (branch-from book e ps)) (B (branch-from book g ps))) W)) (first (Step.Split n m))
-              (same-trans _ _ _
-                (then-left (λ u. D ps (Step.Split n m ∷ u)) (Then L (Then (B (branch-from book e ps)) (B (branch-from book g ps)))) W (after-split book (length ss) ps n m few less equal greater))
-                (then-assoc L (Then (B (branch-from book e ps)) (B (branch-from book g ps))) W)))))
+        (subst (λ x. Same F (Then L (Then (Then (B (branch-from book e ps)) (B (branch-from book g ps))) (Waiting book ss x)))) (sym (dropped-twice book l ps))
+        (same-trans F (Then (λ u. D ps (Step.Split n m ∷ u)) W) (Then L (Then (Then (B (branch-from book e ps)) (B (branch-from book g ps))) W)) (first (Step.Split n m))
+        (same-trans _ _ _
+        (then-left (λ u. D ps (Step.Split n m ∷ u)) (Then L (Then (B (branch-from book e ps)) (B (branch-from book g ps)))) W (after-split book (length ss) ps n m few less equal greater))
+        (then-assoc L (Then (B (branch-from book e ps)) (B (branch-from book g ps))) W)))))
       where
         l : Comparison
         l = Comparison.Less n m

@@ -65,7 +65,7 @@ module _ (book : Book) where
       let rest : f ++ (g ++ t) ≡ w = cc in
       subst (λ z. After d ps z w) first
       (subst (λ x. After d ps (Step.Split n m) x) rest
-        (record { few = h; less = r1; equal = r2; greater = r3; branches = (f, g ++ t, refl, d1, (g, t, refl, d2, d3)) }))
+      (record { few = h; less = r1; equal = r2; greater = r3; branches = (f, g ++ t, refl, d1, (g, t, refl, d2, d3)) }))
 
   pub begun : (d : ℕ) (ps : Places) (s : Step) (w : List Step) → Derives book d ps (s ∷ w) → After d ps s w
   begun d ps s w h = begins d ps (s ∷ w) h s w refl

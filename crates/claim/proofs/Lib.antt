@@ -8,6 +8,7 @@ pub mod Literals
 pub mod Moves
 pub mod Parts
 pub mod Promises
+pub mod Replays
 pub mod Soundness
 pub mod Stacks
 pub mod Standing

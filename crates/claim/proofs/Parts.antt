@@ -28,13 +28,14 @@ then-right P Q Q′ h w =
     (λ t. (t .0, t .1, t .2, t .3, h (t .1) .0 (t .4)), λ t. (t .0, t .1, t .2, t .3, h (t .1) .1 (t .4)))
 
 pub then-assoc : (P Q R : List Step → Type 0) → Same (Then (Then P Q) R) (Then P (Then Q R))
-then-assoc P Q R w =
-    (λ t.
+then-assoc P Q R w = (
+  λ t.
       let i = t .3 in
       (i .0, i .1 ++ t .1, t .2 ∙ ap (λ u. u ++ t .1) (i .2) ∙ append-assoc (i .0) (i .1) (t .1), i .3, (i .1, t .1, refl, i .4, t .4)),
-    λ t.
+  λ t.
       let i = t .4 in
-      (t .0 ++ i .0, i .1, t .2 ∙ ap (λ x. t .0 ++ x) (i .2) ∙ sym (append-assoc (t .0) (i .0) (i .1)), (t .0, i .0, refl, t .3, i .3), i .4))
+      (t .0 ++ i .0, i .1, t .2 ∙ ap (λ x. t .0 ++ x) (i .2) ∙ sym (append-assoc (t .0) (i .0) (i .1)), (t .0, i .0, refl, t .3, i .3), i .4),
+)
 
 -- an empty part is none
 pub then-none : (Q : List Step → Type 0) → Same (Then (λ u. u ≡ []) Q) Q

@@ -50,9 +50,10 @@ pub history-left : (book : Book) (ps : Places) (n : ℕ) (ss : List SentStep) (r
 history-left book ps n ss rs st taken Steps-sent.none w = then-end (Derives book 0 ps) w
 history-left book ps n ss rs st taken (Steps-sent.more {st = before} {taken = done} s a t after h call) w =
     let whole : Same (Left book before) (λ x. Derives book 0 ps (done ++ x)) = history-left book ps n _ _ before done h in
-    let step : Same (Left book after) (λ x. Left book before (listed t ++ x)) = step-left book (n + length done) s before a t after call in
-    (λ k. subst (Derives book 0 ps) (sym (append-assoc done (listed t) w)) (whole (listed t ++ w) .0 (step w .0 k)),
-    λ k. step w .1 (whole (listed t ++ w) .1 (subst (Derives book 0 ps) (append-assoc done (listed t) w) k)))
+    let step : Same (Left book after) (λ x. Left book before (listed t ++ x)) = step-left book (n + length done) s before a t after call in (
+      λ k. subst (Derives book 0 ps) (sym (append-assoc done (listed t) w)) (whole (listed t ++ w) .0 (step w .0 k)),
+      λ k. step w .1 (whole (listed t ++ w) .1 (subst (Derives book 0 ps) (append-assoc done (listed t) w) k)),
+    )
 
 -- nothing is left exactly where the derivation is closed
 left-nothing : (book : Book) (st : State) → Left book st [] → st ≡ closed
@@ -133,8 +134,8 @@ promise admits book sound ls lrs ps literals sent ss srs st steps stepped =
     record {
       no-false-seal = λ shut v admitted all. no-valuation v admits book sound admitted 0 ps steps (whole shut) (literals-true v book ls lrs ps literals sent all);
       no-due-missed = λ w d few t rest e s checked a x after call.
-        due-taken book (length literals + length steps) s t checked (omega (arith, ap length e, length-append steps (t ∷ rest))) rest st a x after call
-        (left (t ∷ rest) .1 (subst (Derives book 0 ps) e d));
+          due-taken book (length literals + length steps) s t checked (omega (arith, ap length e, length-append steps (t ∷ rest))) rest st a x after call
+          (left (t ∷ rest) .1 (subst (Derives book 0 ps) e d));
       closed-by = whole;
       closes = λ d. left-nothing book st (left [] .1 (subst (Derives book 0 ps) (sym (append-nil steps)) d));
     }

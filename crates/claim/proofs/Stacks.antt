@@ -14,9 +14,10 @@ splits-count t =
     length-reverse (take (t .used) (t .rows)) ∙ length-take-le (t .used) (t .rows) (let long = t .«all_rows» in let few = t .within in omega arith)
 
 pub splits-pushed : (t : Stack) (s : OpenSplit) → t .used < 8 → (length (stack-splits t) < 8) × (reverse (take (t .used + 1) (set (t .rows) (t .used) s)) ≡ s ∷ stack-splits t)
-splits-pushed t s few =
-    (subst (λ n. n < 8) (sym (splits-count t)) few,
-    ap reverse (take-more-set (t .rows) (t .used) s (let long = t .«all_rows» in omega arith)) ∙ reverse-append (take (t .used) (t .rows)) (s ∷ []))
+splits-pushed t s few = (
+  subst (λ n. n < 8) (sym (splits-count t)) few,
+  ap reverse (take-more-set (t .rows) (t .used) s (let long = t .«all_rows» in omega arith)) ∙ reverse-append (take (t .used) (t .rows)) (s ∷ []),
+)
 
 pub splits-popped : (t : Stack) (x : OpenSplit) → 0 < t .used → stack-splits t ≡ getD (t .rows) (t .used - 1) x ∷ reverse (take (t .used - 1) (t .rows))
 splits-popped t x some =

@@ -19,11 +19,11 @@ ghost use Rattle.std.specs.declared.result.Result.the-variants.{Ok};
 ghost use Rattle.claim.specs.Endings.{Ended};
 ghost use Rattle.claim.specs.Derived.{state-of, Branch-begun, Handed-on, Stepped, Split-answer, Reached};
 use crate::counts::Counts;
-use crate::stack::Stack;
-use crate::stack::methods::MOST_SPLITS;
 use crate::seal::Ending;
 use crate::seal::Seal;
 use crate::sent::SentStep;
+use crate::stack::Stack;
+use crate::stack::methods::MOST_SPLITS;
 use crate::step::Branch;
 use crate::step::OpenSplit;
 use crate::step::Step;
@@ -47,7 +47,11 @@ pub struct Derivation<T> {
 fn because(refusal: Refusal) -> Cause
     ensures { λ r. ⌜ r ≡ because refusal 0 ⌝ }
 {
-    Cause { refusal, detail: 0, theory: 0 }
+    Cause {
+        refusal,
+        detail: 0,
+        theory: 0,
+    }
 }
 
 // Opens a level in which a comparison is told.
@@ -71,7 +75,12 @@ impl<T: Theory> Derivation<T> {
         ensures state { λ r. ⌜ state-of (T·Theory .places) r ≡ working (T·Theory .places theory) [] ⌝ }
         ensures counts { λ r. ⌜ r .counts ≡ counts ⌝ }
     {
-        Derivation { theory, stack: Stack::new(), closed: false, counts }
+        Derivation {
+            theory,
+            stack: Stack::new(),
+            closed: false,
+            counts,
+        }
     }
 
     // Begins the branch after the one that a split was in; false where that was the last.
@@ -83,12 +92,23 @@ impl<T: Theory> Derivation<T> {
         match split.branch {
             Branch::First => {
                 begin_branch(&mut self.theory, Comparison::Equal(split.left, split.right));
-                let _ = self.stack.push(OpenSplit { left: split.left, right: split.right, branch: Branch::Second });
+                let _ = self.stack.push(OpenSplit {
+                    left: split.left,
+                    right: split.right,
+                    branch: Branch::Second,
+                });
                 true
             }
             Branch::Second => {
-                begin_branch(&mut self.theory, Comparison::Greater(split.left, split.right));
-                let _ = self.stack.push(OpenSplit { left: split.left, right: split.right, branch: Branch::Third });
+                begin_branch(
+                    &mut self.theory,
+                    Comparison::Greater(split.left, split.right),
+                );
+                let _ = self.stack.push(OpenSplit {
+                    left: split.left,
+                    right: split.right,
+                    branch: Branch::Third,
+                });
                 true
             }
             Branch::Third => false,
@@ -133,9 +153,7 @@ impl<T: Theory> Derivation<T> {
                 self.counts.add_step();
                 Ok(())
             }
-            Err(refusal) => {
-                Err(self.fault(because(refusal), address))
-            }
+            Err(refusal) => { Err(self.fault(because(refusal), address)) }
         }
     }
 
@@ -188,7 +206,11 @@ impl<T: Theory> Derivation<T> {
             return Err(self.fault(because(refusal), 0));
         }
         begin_branch(&mut self.theory, Comparison::Less(left, right));
-        let _ = self.stack.push(OpenSplit { left, right, branch: Branch::First });
+        let _ = self.stack.push(OpenSplit {
+            left,
+            right,
+            branch: Branch::First,
+        });
         self.counts.add_split();
         Ok(())
     }
@@ -216,7 +238,11 @@ impl<T: Theory> Derivation<T> {
         let checked = match step.check() {
             Ok(checked) => checked,
             Err(byte) => {
-                let cause = Cause { refusal: Refusal::FieldOutOfRange, detail: byte, theory: 0 };
+                let cause = Cause {
+                    refusal: Refusal::FieldOutOfRange,
+                    detail: byte,
+                    theory: 0,
+                };
                 return Err(self.fault(cause, step.address()));
             }
         };

@@ -28,8 +28,17 @@ pub struct Claim<T> {
 fn because(refusal: Refusal, detail: u8, place: u32) -> CallFault
     ensures { λ r. ⌜ r ≡ refusal-of refusal detail place ⌝ }
 {
-    let cause = Cause { refusal, detail, theory: 0 };
-    CallFault { cause, address: 0, place, depth: 0 }
+    let cause = Cause {
+        refusal,
+        detail,
+        theory: 0,
+    };
+    CallFault {
+        cause,
+        address: 0,
+        place,
+        depth: 0,
+    }
 }
 
 impl<T: Theory> Claim<T> {
@@ -39,7 +48,10 @@ impl<T: Theory> Claim<T> {
         ensures counts { λ r. ⌜ Nothing-counted (r .counts) ⌝ }
         ensures history { λ r. ⌜ Claimed (T·Theory .places) (T·Theory .rules) r [] [] [] ⌝ }
     {
-        Claim { theory: T::fresh(), counts: Counts::none() }
+        Claim {
+            theory: T::fresh(),
+            counts: Counts::none(),
+        }
     }
 
     // Takes a literal.

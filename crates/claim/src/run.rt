@@ -25,7 +25,11 @@ pub struct Transcript {
     pub ending: Ending,
 }
 
-fn send_literals<T: Theory>(heap: Global, claim: &mut Claim<T>, literals: &[Literal]) -> Result<Vec<Result<(), CallFault>>, AllocError>
+fn send_literals<T: Theory>(
+    heap: Global,
+    claim: &mut Claim<T>,
+    literals: &[Literal],
+) -> Result<Vec<Result<(), CallFault>>, AllocError>
     ensures { λ r. ⌜ made r (λ v. Claimed (T·Theory .places) (T·Theory .rules) (now (claim .entry)) [] [] [] → (taken : List Literal) × Claimed (T·Theory .places) (T·Theory .rules) (now (claim .exit)) (now (literals .entry)) (vec-items v) taken) ⌝ }
 {
     let mut answers = Vec::new(heap);
@@ -35,7 +39,11 @@ fn send_literals<T: Theory>(heap: Global, claim: &mut Claim<T>, literals: &[Lite
     Ok(answers)
 }
 
-fn send_steps<T: Theory>(heap: Global, derivation: &mut Derivation<T>, steps: &[SentStep]) -> Result<Vec<Result<(), CallFault>>, AllocError>
+fn send_steps<T: Theory>(
+    heap: Global,
+    derivation: &mut Derivation<T>,
+    steps: &[SentStep],
+) -> Result<Vec<Result<(), CallFault>>, AllocError>
     ensures { λ r. ⌜ made r (λ v. (ps : Places) (literals : List Literal) → Reached (T·Theory .places) (T·Theory .rules) (now (derivation .entry)) ps literals [] [] [] → (taken : List Step) × Reached (T·Theory .places) (T·Theory .rules) (now (derivation .exit)) ps literals (now (steps .entry)) (vec-items v) taken) ⌝ }
 {
     let mut answers = Vec::new(heap);
@@ -46,12 +54,20 @@ fn send_steps<T: Theory>(heap: Global, derivation: &mut Derivation<T>, steps: &[
 }
 
 // Opens a claim, sends every literal, begins, sends every step and ends.
-pub fn replay<T: Theory + Drop>(heap: Global, literals: &[Literal], steps: &[SentStep]) -> Result<Transcript, AllocError>
+pub fn replay<T: Theory + Drop>(
+    heap: Global,
+    literals: &[Literal],
+    steps: &[SentStep],
+) -> Result<Transcript, AllocError>
     ensures { λ r. ⌜ made r (λ t. Replayed (T·Theory .admits) (T·Theory .rules) (now (literals .entry)) (now (steps .entry)) (vec-items (t .literals)) (vec-items (t .steps)) (t .ending)) ⌝ }
 {
     let mut claim = Claim::<T>::open();
     let taken = send_literals(heap, &mut claim, literals)?;
     let mut derivation = claim.begin();
     let answers = send_steps(heap, &mut derivation, steps)?;
-    Ok(Transcript { literals: taken, steps: answers, ending: derivation.end() })
+    Ok(Transcript {
+        literals: taken,
+        steps: answers,
+        ending: derivation.end(),
+    })
 }

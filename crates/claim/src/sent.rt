@@ -81,13 +81,27 @@ impl SentStep {
     {
         match self {
             SentStep::Reflexivity(address, term) => check_reflexivity(address, term),
-            SentStep::Transitivity(address, fact, turned) => check_transitivity(address, fact, turned),
-            SentStep::Congruence(address, fact, position, turned) => check_congruence(address, fact, position, turned),
+            SentStep::Transitivity(address, fact, turned) => check_transitivity(
+                address,
+                fact,
+                turned,
+            ),
+            SentStep::Congruence(address, fact, position, turned) => check_congruence(
+                address,
+                fact,
+                position,
+                turned,
+            ),
             SentStep::Clash(address, fact) => Ok(Step::Infer(address, Inference::Clash(fact))),
             SentStep::Propagate(address) => Ok(Step::Infer(address, Inference::Propagate)),
             SentStep::Zero(address) => Ok(Step::Infer(address, Inference::Zero)),
             SentStep::Add(address, fact, factor) => check_add(address, fact, factor),
-            SentStep::Antisymmetry(address, fact, first, second) => check_antisymmetry(address, fact, first, second),
+            SentStep::Antisymmetry(address, fact, first, second) => check_antisymmetry(
+                address,
+                fact,
+                first,
+                second,
+            ),
             SentStep::Falsify(address) => Ok(Step::Infer(address, Inference::Falsify)),
             SentStep::Strengthen(address) => Ok(Step::Infer(address, Inference::Strengthen)),
             SentStep::Cut(address) => Ok(Step::Infer(address, Inference::Cut)),

@@ -11,7 +11,11 @@ impl Counts {
     pub fn none() -> Counts
         ensures { λ r. ⌜ Nothing-counted r ⌝ }
     {
-        Counts { literals: 0, steps: 0, splits: 0 }
+        Counts {
+            literals: 0,
+            steps: 0,
+            splits: 0,
+        }
     }
 
     pub fn literals(&self) -> u32

@@ -22,8 +22,15 @@ impl Stack {
         ensures { λ r. ⌜ stack-splits r ≡ [] ⌝ }
     {
         let name = Name::new(0).unwrap();
-        let filler = OpenSplit { left: name, right: name, branch: Branch::First };
-        Stack { rows: [filler; 8], used: 0 }
+        let filler = OpenSplit {
+            left: name,
+            right: name,
+            branch: Branch::First,
+        };
+        Stack {
+            rows: [filler; 8],
+            used: 0,
+        }
     }
 
     pub fn depth(&self) -> usize

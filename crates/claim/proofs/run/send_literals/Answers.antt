@@ -6,11 +6,12 @@ use Rattle.claim.proofs.Extending.{claimed-at}
 use Rattle.claim.proofs.run.send_literals.Needs as need
 
 pub loop-literal-again : need.loop-literal-again
-loop-literal-again g c =
-    (omega arith,
-    λ start.
+loop-literal-again g c = (
+  omega arith,
+  λ start.
       let before = c .loop-literal .inv .1 start in
-      claimed-at (g .T·Theory .places) (g .T·Theory .rules) (c .literal .last .self) _ _ _ _ _ (take-more (c .args .literals .now) (c .loop-literal .literal-index) _ (c .loop-literal-test .taken)) (c .in-Continue-push .ensures tt .items) (c .literal .ensures .history _ _ (before .0) (before .1)))
+      claimed-at (g .T·Theory .places) (g .T·Theory .rules) (c .literal .last .self) _ _ _ _ _ (take-more (c .args .literals .now) (c .loop-literal .literal-index) _ (c .loop-literal-test .taken)) (c .in-Continue-push .ensures tt .items) (c .literal .ensures .history _ _ (before .0) (before .1)),
+)
 
 pub returns : need.returns
 returns g c start =

@@ -11,11 +11,11 @@ returns g c =
       state = c .new .ensures .state;
       counts = c .new .ensures .counts;
       history = λ ls rs taken h.
-        record {
-          sent = subst (λ st. Steps-sent (g .T·Theory .rules) (g .T·Theory .places (c .args .self .theory)) (length taken) [] [] st []) (sym (c .new .ensures .state)) Steps-sent.none;
-          level = sent-level (g .T·Theory .rules) ls rs _ taken (h .sent);
-          counted-literals = ap (λ k. k .literals) (c .new .ensures .counts) ∙ h .counted-literals;
-          counted-steps = ap (λ k. k .steps) (c .new .ensures .counts) ∙ h .counted-steps;
-          counted-splits = ap (λ k. k .splits) (c .new .ensures .counts) ∙ h .counted-splits;
-        };
+          record {
+            sent = subst (λ st. Steps-sent (g .T·Theory .rules) (g .T·Theory .places (c .args .self .theory)) (length taken) [] [] st []) (sym (c .new .ensures .state)) Steps-sent.none;
+            level = sent-level (g .T·Theory .rules) ls rs _ taken (h .sent);
+            counted-literals = ap (λ k. k .literals) (c .new .ensures .counts) ∙ h .counted-literals;
+            counted-steps = ap (λ k. k .steps) (c .new .ensures .counts) ∙ h .counted-steps;
+            counted-splits = ap (λ k. k .splits) (c .new .ensures .counts) ∙ h .counted-splits;
+          };
     }
