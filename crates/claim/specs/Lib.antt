@@ -7,5 +7,6 @@ pub mod Histories
 pub mod Popped
 pub mod Replays
 pub mod Sent
+pub mod Sheets
 pub mod Stacks
 pub mod Views

@@ -5,6 +5,7 @@ mod opening;
 mod run;
 mod seal;
 mod sent;
+mod sheet;
 mod stack;
 mod step;
 
@@ -15,6 +16,9 @@ pub use run::replay;
 pub use seal::Ending;
 pub use seal::Seal;
 pub use sent::SentStep;
+pub use sheet::Line;
+pub use sheet::Sheet;
+pub use sheet::methods::Unentered;
 pub use step::Branch;
 pub use step::OpenSplit;
 pub use step::Step;
