@@ -22,7 +22,7 @@ pub(crate) const CONTRADICTION: Answer = (100, 0, 0);
 
 pub(crate) const HANDED_ON: Answer = (101, 0, 0);
 
-pub(crate) fn answer(outcome: Outcome) -> Answer {
+fn answer(outcome: Outcome) -> Answer {
     match outcome {
         Outcome::Current(_) => TAKEN,
         Outcome::Pushed(_) => TAKEN,
@@ -45,13 +45,23 @@ pub(crate) fn taken(result: Result<(), Refusal>) -> Result<(), Fail> {
     check_eq(number(result), 0)
 }
 
-pub(crate) fn infer<T: Theory>(theory: &mut T, address: usize, inference: Inference) -> Answer {
-    answer(theory.infer(address, inference))
+// That the inferences are answered so, one after the other, each at its address.
+pub(crate) fn expect_at<T: Theory>(
+    theory: &mut T,
+    steps: &[(usize, Inference, Answer)],
+) -> Result<(), Fail> {
+    for (address, inference, wanted) in steps {
+        check_eq(answer(theory.infer(*address, *inference)), *wanted)?;
+    }
+    Ok(())
 }
 
 // At address 0.
-pub(crate) fn ask<T: Theory>(theory: &mut T, inference: Inference) -> Answer {
-    infer(theory, 0, inference)
+pub(crate) fn expect<T: Theory>(theory: &mut T, steps: &[(Inference, Answer)]) -> Result<(), Fail> {
+    for (inference, wanted) in steps {
+        check_eq(answer(theory.infer(0, *inference)), *wanted)?;
+    }
+    Ok(())
 }
 
 pub(crate) fn assume<T: Theory>(theory: &mut T, fact: Fact) -> u8 {
@@ -109,7 +119,7 @@ pub(crate) fn antisymmetry(fact: u8, first: u8, second: u8) -> Inference {
 }
 
 // The constant of a row that became current, and its multiples of n0 and n1.
-pub(crate) fn numbers(outcome: Outcome) -> Option<(i64, i64, i64)> {
+fn numbers(outcome: Outcome) -> Option<(i64, i64, i64)> {
     match outcome {
         Outcome::Current(fact) => row_numbers(fact),
         _ => None,
@@ -129,10 +139,18 @@ fn row_numbers(fact: Fact) -> Option<(i64, i64, i64)> {
     }
 }
 
+pub(crate) fn gives(outcome: Outcome, wanted: (i64, i64, i64)) -> Result<(), Fail> {
+    check_eq(numbers(outcome), Some(wanted))
+}
+
 // The indices of two names whose equality is handed on.
-pub(crate) fn handed_on(outcome: Outcome) -> Option<(u8, u8)> {
+fn handed_on(outcome: Outcome) -> Option<(u8, u8)> {
     match outcome {
         Outcome::Equal(n, m) => Some((n.index(), m.index())),
         _ => None,
     }
+}
+
+pub(crate) fn hands_on(outcome: Outcome, wanted: (u8, u8)) -> Result<(), Fail> {
+    check_eq(handed_on(outcome), Some(wanted))
 }

@@ -19,28 +19,32 @@ fn an_address_holds_64_facts() -> Result<(), Fail> {
     for _ in 0..63 {
         taken(t.assume(&fact))?;
     }
-    check_eq(ask(&mut t, Inference::Reflexivity(bare(0))), TAKEN)?;
-    check_eq(ask(&mut t, Inference::Transitivity(63, false)), (13, 63, 1))?;
-    check_eq(ask(&mut t, Inference::Push), TAKEN)?;
-    check_eq(ask(&mut t, Inference::Transitivity(63, false)), TAKEN)?;
-    check_eq(ask(&mut t, Inference::Push), (18, 0, 1))?;
+    expect(
+        &mut t,
+        &[
+            (Inference::Reflexivity(bare(0)), TAKEN),
+            (Inference::Transitivity(63, false), (13, 63, 1)),
+            (Inference::Push, TAKEN),
+            (Inference::Transitivity(63, false), TAKEN),
+            (Inference::Push, (18, 0, 1)),
+        ],
+    )?;
     check_eq(assume(&mut t, fact), 18)?;
     check_eq(assume(&mut t, row(Relation::Zero, 0, 0, 0)), 10)?;
-    check_eq(ask(&mut t, Inference::Transitivity(64, false)), (13, 64, 1))
+    expect(&mut t, &[(Inference::Transitivity(64, false), (13, 64, 1))])
 }
 
 #[test]
 fn pushing_ends_at_64_facts_too() -> Result<(), Fail> {
     let mut t: Single<Whole> = Single::fresh();
-    check_eq(ask(&mut t, Inference::Zero), TAKEN)?;
+    expect(&mut t, &[(Inference::Zero, TAKEN)])?;
     for _ in 0..64 {
-        check_eq(ask(&mut t, Inference::Push), TAKEN)?;
+        expect(&mut t, &[(Inference::Push, TAKEN)])?;
     }
-    check_eq(ask(&mut t, Inference::Push), (18, 0, 3))?;
+    expect(&mut t, &[(Inference::Push, (18, 0, 3))])?;
     check_eq(assume(&mut t, row(Relation::Zero, 0, 0, 0)), 18)?;
     check_eq(assume(&mut t, Fact::Equal(bare(0), bare(0))), 10)?;
-    check_eq(ask(&mut t, add(63, 1)), TAKEN)?;
-    check_eq(ask(&mut t, add(64, 1)), (13, 64, 3))
+    expect(&mut t, &[(add(63, 1), TAKEN), (add(64, 1), (13, 64, 3))])
 }
 
 #[test]
@@ -61,16 +65,26 @@ fn there_are_nine_levels() -> Result<(), Fail> {
 fn a_level_is_dropped_with_its_facts() -> Result<(), Fail> {
     let mut t: Single<Whole> = Single::fresh();
     taken(t.assume(&row(Relation::NonNegative, 0, 1, 0)))?;
-    check_eq(ask(&mut t, Inference::Zero), TAKEN)?;
+    expect(&mut t, &[(Inference::Zero, TAKEN)])?;
     taken(t.push_level())?;
-    check_eq(ask(&mut t, Inference::Push), (12, 0, 3))?;
-    check_eq(ask(&mut t, Inference::Zero), TAKEN)?;
-    check_eq(ask(&mut t, Inference::Push), TAKEN)?;
-    check_eq(ask(&mut t, add(0, 1)), TAKEN)?;
-    check_eq(ask(&mut t, add(1, 1)), TAKEN)?;
+    expect(
+        &mut t,
+        &[
+            (Inference::Push, (12, 0, 3)),
+            (Inference::Zero, TAKEN),
+            (Inference::Push, TAKEN),
+            (add(0, 1), TAKEN),
+            (add(1, 1), TAKEN),
+        ],
+    )?;
     taken(t.pop_level())?;
-    check_eq(ask(&mut t, Inference::Push), (12, 0, 3))?;
-    check_eq(ask(&mut t, Inference::Zero), TAKEN)?;
-    check_eq(ask(&mut t, add(1, 1)), (13, 1, 3))?;
-    check_eq(ask(&mut t, add(0, 1)), TAKEN)
+    expect(
+        &mut t,
+        &[
+            (Inference::Push, (12, 0, 3)),
+            (Inference::Zero, TAKEN),
+            (add(1, 1), (13, 1, 3)),
+            (add(0, 1), TAKEN),
+        ],
+    )
 }
