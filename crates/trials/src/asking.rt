@@ -1,4 +1,5 @@
 // How the trials of theories ask, and what they are answered.
+use facts::Comparison;
 use facts::Fact;
 use facts::Name;
 use facts::Refusal;
@@ -13,59 +14,75 @@ use theory::Outcome;
 use theory::Theory;
 
 // An answer's number, detail and theory. The number is 0 where an inference is taken, 100 for a
-// contradiction, 101 for an equality that is handed on, and else the refusal's.
+// contradiction, 101 for an equality that is handed on, with its two names, and else the refusal's.
 pub(crate) type Answer = (u8, u8, u8);
 
 pub(crate) const TAKEN: Answer = (0, 0, 0);
 
 pub(crate) const CONTRADICTION: Answer = (100, 0, 0);
 
-pub(crate) const HANDED_ON: Answer = (101, 0, 0);
+// A call, and what it is to be answered: an answer, a refusal's number, or 0 if it is taken.
+#[derive(Clone, Copy)]
+pub(crate) enum Step {
+    Infer(usize, Inference, Answer),
+    // a row becomes current, with this constant and these multiples of n0 and n1
+    Gives(usize, Inference, (i64, i64, i64)),
+    Assume(Fact, u8),
+    // so many times, and each time it is taken
+    Fill(u8, Fact),
+    Tell(Comparison, u8),
+    Open(u8),
+    Drop(u8),
+}
 
 fn answer(outcome: Outcome) -> Answer {
     match outcome {
         Outcome::Current(_) => TAKEN,
         Outcome::Pushed(_) => TAKEN,
-        Outcome::Equal(_, _) => HANDED_ON,
+        Outcome::Equal(n, m) => (101, n.index(), m.index()),
         Outcome::Contradiction => CONTRADICTION,
         Outcome::Refused(cause) => (cause.refusal.number(), cause.detail, cause.theory),
     }
 }
 
 // The number of a refusal, or 0.
-pub(crate) fn number(result: Result<(), Refusal>) -> u8 {
+fn number(result: Result<(), Refusal>) -> u8 {
     match result {
         Ok(_) => 0,
         Err(refusal) => refusal.number(),
     }
 }
 
-// That nothing was refused.
-pub(crate) fn taken(result: Result<(), Refusal>) -> Result<(), Fail> {
-    check_eq(number(result), 0)
-}
-
-// That the inferences are answered so, one after the other, each at its address.
-pub(crate) fn expect_at<T: Theory>(
-    theory: &mut T,
-    steps: &[(usize, Inference, Answer)],
-) -> Result<(), Fail> {
-    for (address, inference, wanted) in steps {
-        check_eq(answer(theory.infer(*address, *inference)), *wanted)?;
+fn fill<T: Theory>(theory: &mut T, times: u8, fact: &Fact) -> Result<(), Fail> {
+    for _ in 0..times {
+        check_eq(number(theory.assume(fact)), 0)?;
     }
     Ok(())
 }
 
-// At address 0.
-pub(crate) fn expect<T: Theory>(theory: &mut T, steps: &[(Inference, Answer)]) -> Result<(), Fail> {
-    for (inference, wanted) in steps {
-        check_eq(answer(theory.infer(0, *inference)), *wanted)?;
+fn take<T: Theory>(theory: &mut T, step: Step) -> Result<(), Fail> {
+    match step {
+        Step::Infer(address, inference, wanted) => {
+            check_eq(answer(theory.infer(address, inference)), wanted)
+        }
+        Step::Gives(address, inference, wanted) => {
+            check_eq(numbers(theory.infer(address, inference)), Some(wanted))
+        }
+        Step::Assume(fact, wanted) => check_eq(number(theory.assume(&fact)), wanted),
+        Step::Fill(times, fact) => fill(theory, times, &fact),
+        Step::Tell(comparison, wanted) => check_eq(number(theory.tell(comparison)), wanted),
+        Step::Open(wanted) => check_eq(number(theory.push_level()), wanted),
+        Step::Drop(wanted) => check_eq(number(theory.pop_level()), wanted),
     }
-    Ok(())
 }
 
-pub(crate) fn assume<T: Theory>(theory: &mut T, fact: Fact) -> u8 {
-    number(theory.assume(&fact))
+// Takes the steps one after the other, from a new theory on.
+pub(crate) fn run<T: Theory + Drop>(steps: &[Step]) -> Result<(), Fail> {
+    let mut theory = T::fresh();
+    for step in steps {
+        take(&mut theory, *step)?;
+    }
+    Ok(())
 }
 
 pub(crate) fn name(index: u8) -> Name {
@@ -137,20 +154,4 @@ fn row_numbers(fact: Fact) -> Option<(i64, i64, i64)> {
         }
         _ => None,
     }
-}
-
-pub(crate) fn gives(outcome: Outcome, wanted: (i64, i64, i64)) -> Result<(), Fail> {
-    check_eq(numbers(outcome), Some(wanted))
-}
-
-// The indices of two names whose equality is handed on.
-fn handed_on(outcome: Outcome) -> Option<(u8, u8)> {
-    match outcome {
-        Outcome::Equal(n, m) => Some((n.index(), m.index())),
-        _ => None,
-    }
-}
-
-pub(crate) fn hands_on(outcome: Outcome, wanted: (u8, u8)) -> Result<(), Fail> {
-    check_eq(handed_on(outcome), Some(wanted))
 }
