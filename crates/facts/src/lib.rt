@@ -24,6 +24,7 @@ pub use fact::Fact;
 pub use fact::Relation;
 pub use refusal::Layer;
 pub use refusal::Refusal;
+pub use refusal::RefusalDebug;
 pub use refusal::RefusalEq;
 
 mod literal;
