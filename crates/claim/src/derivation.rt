@@ -5,7 +5,9 @@ ghost use mathlib.Core.Bool.{false};
 ghost use mathlib.Core.List.{List, [], _∷_, _++_};
 ghost use Rattle.facts.specs.declared.literal.Literal.{Literal};
 ghost use Rattle.std.specs.declared.option.Option.{Option};
-ghost use Rattle.theory.specs.Places.{Places};
+ghost use Rattle.std.specs.Options.{mapped};
+ghost use Rattle.theory.specs.Places.{Places, dropped};
+ghost use Rattle.theory.specs.Rules.{Answered, Dropping-answer};
 ghost use Rattle.claim.specs.Histories.{listed};
 ghost use lib.ListN.{length};
 ghost use Rattle.std.specs.Orderings.{When};
@@ -63,10 +65,17 @@ fn begin_branch<T: Theory>(theory: &mut T, comparison: Comparison)
 }
 
 // Drops the newest level.
+fn drop_level<T: Theory>(theory: &mut T) -> Result<(), Refusal>
+    ensures { λ r. ⌜ Answered (Dropping-answer (T·Theory .places (now (theory .entry)))) (now (theory .entry)) (now (theory .exit)) ((a : ℕ) → T·Theory .places (now (theory .exit)) a ≡ mapped dropped (T·Theory .places (now (theory .entry)) a)) r ⌝ }
+{
+    theory.pop_level()
+}
+
+// Ends a branch, whose level is the newest.
 fn end_branch<T: Theory>(theory: &mut T)
     ensures { λ _. ⌜ ((n : ℕ) → Levelled (suc n) (T·Theory .places (now (theory .entry))) → T·Theory .places (now (theory .exit)) ≡ all-dropped (T·Theory .places (now (theory .entry)))) ⌝ }
 {
-    let _ = theory.pop_level();
+    let _ = drop_level(theory);
 }
 
 impl<T: Theory> Derivation<T> {

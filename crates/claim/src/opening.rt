@@ -5,6 +5,7 @@ ghost use Prim.Native.Nat.{ℕ};
 ghost use Rattle.std.specs.Options.{mapped};
 ghost use Rattle.std.specs.declared.result.Result.the-variants.{Ok, Err};
 ghost use Rattle.theory.specs.Places.{empty};
+ghost use Rattle.theory.specs.Rules.{Answered, Literal-answer, Took, literal-wanted};
 ghost use Rattle.claim.specs.Calls.{Answer, Literal-call, refusal-of};
 ghost use Rattle.claim.specs.Counted.{place-of, Nothing-counted};
 ghost use Rattle.claim.specs.Derivations.{working};
@@ -15,6 +16,7 @@ use crate::counts::Counts;
 use crate::derivation::Derivation;
 use facts::CallFault;
 use facts::Cause;
+use facts::Fact;
 use facts::Literal;
 use facts::Refusal;
 use theory::Theory;
@@ -39,6 +41,13 @@ fn because(refusal: Refusal, detail: u8, place: u32) -> CallFault
         place,
         depth: 0,
     }
+}
+
+// Assumes a literal's fact at every address that keeps it.
+fn keep<T: Theory>(theory: &mut T, fact: &Fact) -> Result<(), Refusal>
+    ensures { λ r. ⌜ Answered (Literal-answer (T·Theory .places (now (theory .entry))) (literal-wanted (T·Theory .rules) (now (fact .entry)))) (now (theory .entry)) (now (theory .exit)) (Took (T·Theory .places (now (theory .entry))) (literal-wanted (T·Theory .rules) (now (fact .entry))) (T·Theory .places (now (theory .exit)))) r ⌝ }
+{
+    theory.assume(fact)
 }
 
 impl<T: Theory> Claim<T> {
@@ -76,7 +85,7 @@ impl<T: Theory> Claim<T> {
         if self.counts.is_full() {
             return Err(because(Refusal::TooManyCalls, 0, place));
         }
-        match self.theory.assume(&fact) {
+        match keep(&mut self.theory, &fact) {
             Ok(()) => {
                 self.counts.add_literal();
                 Ok(())

@@ -22,19 +22,19 @@ returns-then-is-full g c =
       after = refl;
     }
 
-pub returns-in-Ok-assume : need.returns-in-Ok-assume
-returns-in-Ok-assume g c =
+pub returns-in-Ok-keep : need.returns-in-Ok-keep
+returns-in-Ok-keep g c =
     record {
-      call = Literal-call.taken _ _ (c .in-Ok .ensures tt) (grind (arith, tells)) (c .in-Ok-assume .ensures tt .0) (c .in-Ok-assume .ensures tt .1);
+      call = Literal-call.taken _ _ (c .in-Ok .ensures tt) (grind (arith, tells)) (c .in-Ok-keep .ensures tt .0) (c .in-Ok-keep .ensures tt .1);
       after = c .add-literal .ensures;
     }
 
-pub returns-in-Err-assume : need.returns-in-Err-assume
-returns-in-Err-assume g c =
-    let h = c .in-Err-assume .ensures tt in
+pub returns-in-Err-keep : need.returns-in-Err-keep
+returns-in-Err-keep g c =
+    let h = c .in-Err-keep .ensures tt in
     let ps = g .T·Theory .places (c .args .self .now .theory) in
     let place = place-of (c .args .self .now .counts) in
     record {
-      call = subst (λ t. Literal-call (g .T·Theory .rules) ps place (c .args .literal) (Err (c .because-in-Err-assume .result)) (g .T·Theory .places t)) (sym (h .1)) (not-kept (g .T·Theory .rules) ps place (c .args .literal) _ (c .place-place .ensures) _ _ _ (c .because-in-Err-assume .ensures) (c .in-Ok .ensures tt) (grind (arith, tells)) (h .0));
+      call = subst (λ t. Literal-call (g .T·Theory .rules) ps place (c .args .literal) (Err (c .because-in-Err-keep .result)) (g .T·Theory .places t)) (sym (h .1)) (not-kept (g .T·Theory .rules) ps place (c .args .literal) _ (c .place-place .ensures) _ _ _ (c .because-in-Err-keep .ensures) (c .in-Ok .ensures tt) (grind (arith, tells)) (h .0));
       after = same-claim (c .args .self .now) _ (h .1);
     }
