@@ -105,7 +105,7 @@ module _ (v : Valuation) where
         at true (Some p) k = changed-true o p is l k
         at false q k = k
 
-    -- a derivation ends every hope of a valuation
+    -- where there is a derivation, no admitted valuation makes what stands true
     pub no-valuation : (d : ℕ) (ps : Places) (w : List Step) → Derives book d ps w → All-places-true ps → ⊥
     no-valuation d ps w (contradiction a i h) k = subst (Outcome-true v) h (outcome-true ps k a i)
     no-valuation d ps w (fact a i h r) k = no-valuation d _ _ r (after-true a (outcome-at book ps a i) ps (outcome-true ps k a i) h k)
