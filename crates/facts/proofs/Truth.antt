@@ -1,7 +1,7 @@
 -- A literal and the fact that it stands for are true in the same valuations.
-use Rattle.std.proofs.Common.{◌≡◌, ℕ, ◌+◌, ◌<◌, ◌≤◌, Bool, true, false, cond, eqb, leb, ◌⊎◌, List, [], ◌∷◌, ◌++◌, get_or, ℤ, pos, ◌+ℤ◌, ◌*ℤ◌, nat_abs, Some, None, Ok, Option, sym, refl, ap, ◌∙◌, subst, ⊎_elim, arith}
+use Rattle.std.proofs.Common.{◌≡◌, ℕ, ◌+◌, ◌<◌, Bool, true, false, cond, leb, List, [], ◌∷◌, get_or, pos, ◌+ℤ◌, ◌*ℤ◌, nat_abs, Some, None, Ok, Option, sym, refl, ap, ◌∙◌, subst, ⊎_elim, arith}
 use lib.IntN.{zero-*ℤ}
-use Rattle.std.proofs.lemmas.Bool.Decides.{eqb_tells, leb_tells, nat_tests}
+use Rattle.std.proofs.lemmas.Bool.Decides.{eqb_tells, nat_tests}
 use Rattle.facts.specs.declared.fact.Fact.{Fact}
 use Rattle.facts.specs.declared.fact.Relation.{Relation}
 use Rattle.facts.specs.declared.literal.Literal.{Literal}
@@ -10,10 +10,10 @@ use Rattle.facts.specs.declared.literal.SentRow.{SentRow}
 use Rattle.facts.specs.declared.literal.SentTerm.{SentTerm}
 use Rattle.facts.specs.declared.row.Row.{Row}
 use Rattle.facts.specs.declared.term.Term.{Term}
-use Rattle.facts.specs.Fields.{Field, first_bad, pair_fields, row_fields, term_fields, literal_fields, added, sent, Sums, Stands, SidesChecked, RowChecked}
-use Rattle.facts.specs.Literals.{sent_number, sent_row_number, weighed, LiteralTrue, LiteralChecked}
+use Rattle.facts.specs.Fields.{first_bad, pair_fields, added, sent, Sums, SidesChecked, RowChecked}
+use Rattle.facts.specs.Literals.{sent_number, sent_row_number, weighed, LiteralChecked}
 use Rattle.facts.specs.Sizes.{sent_limit}
-use Rattle.facts.specs.Valuations.{Valuation, sum_below, term_number, row_number, Compares, True}
+use Rattle.facts.specs.Valuations.{Valuation, sum_below, term_number, row_number, Compares}
 use Rattle.facts.proofs.Adding.{share}
 use Rattle.facts.proofs.Integers.{add_times, sum_same, sum_zero, sum_add, sum_one}
 

@@ -1,7 +1,6 @@
 -- The ranges of a literal's fields, and what a literal with good fields stands for.
-use Rattle.std.specs.Prelude.{◌≡◌, ℕ, ◌+◌, ◌<◌, ◌≤◌, Bool, true, false, cond, List, [], ◌∷◌, ◌++◌, ℤ, pos, ◌+ℤ◌, ◌*ℤ◌, Some, None, Ok, Err, Option, Result, ◌==◌, nat_le, slice_index_or, unsigned_abs}
+use Rattle.std.specs.Prelude.{◌≡◌, ℕ, ◌+◌, ◌<◌, ◌≤◌, Bool, cond, List, [], ◌∷◌, ◌++◌, ℤ, pos, ◌+ℤ◌, Some, None, Ok, Err, Option, Result, ◌==◌, nat_le, slice_index_or, unsigned_abs}
 use Rattle.facts.specs.Sizes.{sent_limit}
-use Rattle.facts.specs.Valuations.{Valuation, Compares, True}
 use Rattle.facts.specs.declared.fact.Fact.{Fact}
 use Rattle.facts.specs.declared.literal.Literal.{Literal}
 use Rattle.facts.specs.declared.literal.SentPair.{SentPair}

@@ -1,4 +1,6 @@
 // The vocabulary of strain claims: names, terms, rows, facts, comparisons, refusals.
+#![tactic(auto)]
+
 mod name;
 mod symbol;
 mod term;

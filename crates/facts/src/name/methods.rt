@@ -31,7 +31,10 @@ impl PartialEq for Name {
 
     ghost laws = { first_of (Prim.search (comparing, rules), Prim.grind (arith, Self.row.coded.inj)) };
 
-    fn eq(&self, other: &Name) -> bool {
+    fn eq(&self, other: &Name) -> bool
+        ensures value { result ≡ on (λ v. v.index) nat_eq self.now other.now }
+        ensures same { Decides result (self.now ≡ other.now) }
+    {
         self.index == other.index
     }
 }

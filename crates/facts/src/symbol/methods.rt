@@ -29,7 +29,10 @@ impl PartialEq for Symbol {
 
     ghost laws = { first_of (Prim.search (comparing, rules), Prim.grind (arith, Self.row.coded.inj)) };
 
-    fn eq(&self, other: &Symbol) -> bool {
+    fn eq(&self, other: &Symbol) -> bool
+        ensures value { result ≡ on (λ v. v.index) nat_eq self.now other.now }
+        ensures same { Decides result (self.now ≡ other.now) }
+    {
         self.index == other.index
     }
 }

@@ -1,4 +1,4 @@
-use Rattle.std.proofs.Common.{sym, refl, append_assoc, rules}
+use Rattle.std.proofs.Common.{append_assoc}
 use Rattle.std.proofs.Output.{has_written_of_eq}
 use Rattle.facts.proofs.fault.RecordFaultDisplay.fmt.Goals as goal
 

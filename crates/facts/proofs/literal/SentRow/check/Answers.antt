@@ -1,15 +1,15 @@
-use Rattle.std.proofs.Common.{◌≡◌, ◌<◌, length, sym, refl, ap, ◌∙◌, subst, arith, rules}
+use Rattle.std.proofs.Common.{refl, ◌∙◌, arith, rules}
 use Rattle.std.proofs.lemmas.Int.{ints}
-use Rattle.facts.proofs.Adding.{Adding, none_yet, one_more, bad_name, bad_coefficient, all_good, all_added, constant_good, pair_at}
+use Rattle.facts.proofs.Adding.{none_yet, one_more, bad_name, bad_coefficient, all_good, all_added, constant_good}
 use Rattle.facts.proofs.literal.SentRow.check.Goals as goal
 
 pub loop-pair-init : goal.loop-pair-init
 loop-pair-init c = (refl, none_yet c.args.self.pairs)
 
-pub returns-in-default : goal.returns-in-default
-returns-in-default c =
+pub returns-in_default : goal.returns-in_default
+returns-in_default c =
     constant_good c.args.self (search rules)
-    ∙ bad_name c.args.self.pairs c.loop-pair.pair-index c.loop-pair.at c.loop-pair.coefficients (search rules) c.loop-pair.invariant.1 c.in-default.ensures
+    ∙ bad_name c.args.self.pairs c.loop-pair.pair-index c.loop-pair.at c.loop-pair.coefficients (search rules) c.loop-pair.invariant.1 c.in_default.ensures
 
 pub returns-then-not-sendable-2 : goal.returns-then-not-sendable-2
 returns-then-not-sendable-2 c =
