@@ -1,5 +1,7 @@
 //! Claim files made from a seed, to compare two checkers by: certificates, certificates that were changed,
 //! fields and tables at their limits, and noise. A file is given by its group and its seed alone.
+#![tactic(auto)]
+
 mod certificate;
 mod changed;
 mod draft;

@@ -1,4 +1,6 @@
 // Readings of the converter: the literals that a stored count states, and reading lists as text.
+#![tactic(auto)]
+
 mod bound;
 
 pub use bound::{Bound, Bounds};

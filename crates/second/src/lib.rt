@@ -1,5 +1,7 @@
 //! A second checker of claim files, which shares nothing with the first but the description of the format
 //! in docs/. It holds facts in plain vectors, and copies them for each branch of a split.
+#![tactic(auto)]
+
 mod cause;
 mod claim;
 mod equality;

@@ -1,4 +1,6 @@
 // The interface that every theory meets, and theories made of one table of facts, or of two theories.
+#![tactic(auto)]
+
 mod factor;
 mod inference;
 mod interface;
