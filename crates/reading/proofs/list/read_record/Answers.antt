@@ -13,5 +13,5 @@ returns-then-rest-lt4 c =
 
 pub returns-in-Err : goal.returns-in-Err
 returns-in-Err c =
-    let s : SentReading = record { name = get_or c.args.rest.now 1 0; count = c.from-le-bytes.result } in
+    let s : SentReading = record { name = get_or c.args.rest.now 1 0; count = c.from_le_bytes.result } in
     bad_fields c.args.rest.now s _ (four_bytes c.args.rest.now s (search rules) (search rules) (search rules) (search rules) (search rules)) c.in-Err.ensures

@@ -12,4 +12,4 @@ pub returns-in-None : goal.returns-in-None
 returns-in-None g c =
     let ps = g.L.Theory.places c.args.self.now.left in
     let qs = g.R.Theory.places c.args.self.now.right in
-    dropping_right ps qs c.in-None.ensures _ c.drop-refusal-in-None.ensures
+    dropping_right ps qs c.in-None.ensures _ c.drop_refusal-in-None.ensures

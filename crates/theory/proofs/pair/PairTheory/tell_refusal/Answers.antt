@@ -12,4 +12,4 @@ pub returns-in-None : goal.returns-in-None
 returns-in-None g c =
     let ps = g.L.Theory.places c.args.self.now.left in
     let qs = g.R.Theory.places c.args.self.now.right in
-    pair_telling_right ps qs g.L.Theory.rules g.R.Theory.rules c.args.comparison _ c.in-None.ensures c.tell-refusal-in-None.ensures
+    pair_telling_right ps qs g.L.Theory.rules g.R.Theory.rules c.args.comparison _ c.in-None.ensures c.tell_refusal-in-None.ensures

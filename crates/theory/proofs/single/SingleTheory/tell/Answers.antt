@@ -5,8 +5,8 @@ use Rattle.theory.proofs.Singles.{same_single, telling_full, telling_taken, tell
 use Rattle.theory.proofs.Tables.{written_place}
 use Rattle.theory.proofs.single.SingleTheory.tell.Goals as goal
 
-pub returns-in-default : goal.returns-in-default
-returns-in-default g c = telling_none g.L.Logic.rules _ _ c.in-default.ensures
+pub returns-in_default : goal.returns-in_default
+returns-in_default g c = telling_none g.L.Logic.rules _ _ c.in_default.ensures
 
 pub returns-then-push : goal.returns-then-push
 returns-then-push g c =

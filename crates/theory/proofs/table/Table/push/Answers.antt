@@ -7,7 +7,7 @@ use Rattle.theory.proofs.table.Table.push.Goals as goal
 pub returns : goal.returns
 returns c = row_written _ _ _ (omega arith) refl refl refl refl
 
-pub invariant-of-self : goal.invariant-of-self
-invariant-of-self c =
+pub invariant_of-self-clause-ordered : goal.invariant_of-self-clause-ordered
+invariant_of-self-clause-ordered c =
     let t = c.args.self.now in
-    (search rules, (search rules, (search rules, (search rules, (ordered_more _ t.used _ (omega arith) t.ordered, tt)))))
+    ordered_more _ t.used _ (omega arith) t.ordered
