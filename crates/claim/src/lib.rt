@@ -1,4 +1,6 @@
 // Claims: literals, then the steps of a derivation, then a seal or the branches left.
+#![tactic(auto)]
+
 mod counts;
 mod derivation;
 mod opening;

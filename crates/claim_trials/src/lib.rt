@@ -1,4 +1,6 @@
 // Examples of claims that the gate runs: branches in order, limits, closed claims, sheets.
+#![tactic(auto)]
+
 #[cfg(test)]
 mod claims;
 #[cfg(test)]

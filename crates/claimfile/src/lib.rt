@@ -1,4 +1,6 @@
 // Claim files: their records, the check of a whole file, and its verdict as a line.
+#![tactic(auto)]
+
 mod checking;
 mod fields;
 mod printing;

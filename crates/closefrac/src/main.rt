@@ -1,4 +1,6 @@
 // Prints the verdict on a claim file, over equality at address 0 and rows over fractions at 1.
+#![tactic(auto)]
+
 ghost use Rattle.std.specs.Prelude.{IfOk, string_bytes};
 ghost use Rattle.theory.specs.Pairs.{beside};
 ghost use Rattle.theory.specs.Singles.{alone};

@@ -1,5 +1,7 @@
 // Runs two checkers over the same files, and prints for each group of files what they came to and how
 // often the two said different things.
+#![tactic(auto)]
+
 mod both;
 mod tally;
 

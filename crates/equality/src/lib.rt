@@ -1,4 +1,6 @@
 // Equality with unknown functions: theory 1.
+#![tactic(auto)]
+
 mod logic;
 mod steps;
 mod terms;

@@ -1,4 +1,6 @@
 // Worked examples of what follows from the contracts, as one list with one result.
+#![tactic(auto)]
+
 ghost use Rattle.examples.specs.Examples.{AllHold, examples};
 
 mod counts;

@@ -1,4 +1,6 @@
 // Examples of claim files that the gate runs: every verdict and every refusal.
+#![tactic(auto)]
+
 #[cfg(test)]
 mod cuts;
 #[cfg(test)]

@@ -1,4 +1,6 @@
 // The theories over rows: their rules for fractions, and for whole numbers.
+#![tactic(auto)]
+
 mod content;
 mod cut;
 mod difference;

@@ -1,5 +1,7 @@
 // A theory that stands at no address, written from the public items of `theory` alone: it keeps
 // nothing, is told without effect, and has no rules.
+#![tactic(auto)]
+
 ghost use Rattle.std.specs.Prelude.{◌≡◌};
 ghost use Rattle.nowhere.specs.Nothing.{no_rules, no_places, admits_all};
 ghost use Rattle.std.proofs.Common.{rules};

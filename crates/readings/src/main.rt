@@ -1,4 +1,6 @@
 // Prints what a list of reading records states: a line for each, then their number.
+#![tactic(auto)]
+
 use reading::{LONGEST_INPUT, report};
 use std::io::Read;
 

@@ -1,5 +1,7 @@
 // Examples that the gate runs: field ranges, readings at their edges, what is printed of them, and
 // the rules of the theories with their refusals.
+#![tactic(auto)]
+
 #[cfg(test)]
 mod asking;
 #[cfg(test)]

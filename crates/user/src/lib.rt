@@ -1,4 +1,6 @@
 // A claim used from outside: every call in its order, and the ending told apart.
+#![tactic(auto)]
+
 use claim::{Claim, Ending, Seal, SentStep};
 use facts::Literal;
 use nowhere::Nowhere;

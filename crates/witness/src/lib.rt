@@ -1,4 +1,6 @@
 // What a seal shows, by the contract of a whole run alone.
+#![tactic(auto)]
+
 ghost use Rattle.std.specs.Prelude.{◌≡◌, true, false, IfOk};
 ghost use Rattle.theory.specs.Pairs.{beside};
 ghost use Rattle.theory.specs.Singles.{alone};

@@ -9,7 +9,7 @@ loop-literal-preserved g c = (
   omega arith,
   λ start.
       let before = c.loop-literal.invariant.1 start in
-      claimed_at g.T.Theory.places g.T.Theory.rules c.literal.new.self _ _ _ _ _ (take_more c.args.literals.now c.loop-literal.literal-index _ c.loop-literal-test.true) c.in-ok-push.ensures.items (c.literal.ensures.history _ _ before.0 before.1),
+      claimed_at g.T.Theory.places g.T.Theory.rules c.literal.new.self _ _ _ _ _ (take_more c.args.literals.now c.loop-literal.literal-index _ c.loop-literal-test.true) c.in_ok-push.ensures.items (c.literal.ensures.history _ _ before.0 before.1),
 )
 
 pub returns : goal.returns

@@ -10,7 +10,7 @@ loop-step-preserved g c = (
   λ ps literals start.
       let before = c.loop-step.invariant.1 ps literals start in
       let after = c.step.ensures.history ps literals _ _ before.0 before.1 in
-      reached_at g.T.Theory.places g.T.Theory.rules c.step.new.self ps literals _ _ _ _ _ (take_more c.args.steps.now c.loop-step.step-index _ c.loop-step-test.true) c.in-ok-push.ensures.items after.1,
+      reached_at g.T.Theory.places g.T.Theory.rules c.step.new.self ps literals _ _ _ _ _ (take_more c.args.steps.now c.loop-step.step-index _ c.loop-step-test.true) c.in_ok-push.ensures.items after.1,
 )
 
 pub returns : goal.returns

@@ -5,10 +5,10 @@ use Rattle.linear.proofs.difference.difference.Goals as goal
 
 pub unwrap-requires : goal.unwrap-requires
 unwrap-requires c =
-    ap is_some (row_fitted (pos 0) (pos 0) _ _ (difference_fits c.args.n c.args.m) c.new.result c.new.ensures refl c.difference-coefficients.ensures)
+    ap is_some (row_fitted (pos 0) (pos 0) _ _ (difference_fits c.args.n c.args.m) c.new.result c.new.ensures refl c.difference_coefficients.ensures)
 
 pub returns : goal.returns
 returns c =
-    let made : c.new.result ≡ Some (difference_row c.args.n c.args.m) = row_fitted (pos 0) (pos 0) _ _ (difference_fits c.args.n c.args.m) c.new.result c.new.ensures refl c.difference-coefficients.ensures in
+    let made : c.new.result ≡ Some (difference_row c.args.n c.args.m) = row_fitted (pos 0) (pos 0) _ _ (difference_fits c.args.n c.args.m) c.new.result c.new.ensures refl c.difference_coefficients.ensures in
     let taken = c.unwrap.ensures in
     cc

@@ -19,4 +19,4 @@ returns-then-size-lt1 c =
 pub returns : goal.returns
 returns c =
     holds_is (is_difference c.args.row.now c.args.n c.args.m) _
-    (difference_tested _ _ _ _ _ _ (grind (arith, to_z-of_z)) c.coefficients.ensures (omega (arith, ints)) (omega (arith, ints)) c.all-multiples.ensures)
+    (difference_tested _ _ _ _ _ _ (grind (arith, to_z-of_z)) c.coefficients.ensures (omega (arith, ints)) (omega (arith, ints)) c.all_multiples.ensures)

@@ -5,11 +5,11 @@ use Rattle.linear.specs.Forms.{does_contradict}
 use Rattle.linear.proofs.Tested.{holds_is, holds_not, contradiction_tested}
 use Rattle.linear.proofs.question.contradicts.Goals as goal
 
-pub returns-then-not-is-nameless : goal.returns-then-not-is-nameless
-returns-then-not-is-nameless c =
-    holds_not (does_contradict c.args.how c.args.row.now) (λ h. not_from_Decides _ c.is-nameless.ensures (search rules) h.nameless)
+pub returns-then-not-is_nameless : goal.returns-then-not-is_nameless
+returns-then-not-is_nameless c =
+    holds_not (does_contradict c.args.how c.args.row.now) (λ h. not_from_Decides _ c.is_nameless.ensures (search rules) h.nameless)
 
 pub returns : goal.returns
 returns c =
     holds_is (does_contradict c.args.how c.args.row.now) _
-    (contradiction_tested _ _ _ _ (c.is-nameless.ensures.0 (search rules)) (omega (arith, ints)) c.compares.ensures)
+    (contradiction_tested _ _ _ _ (c.is_nameless.ensures.0 (search rules)) (omega (arith, ints)) c.compares.ensures)

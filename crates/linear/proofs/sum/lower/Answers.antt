@@ -5,4 +5,4 @@ use Rattle.linear.proofs.sum.lower.Goals as goal
 
 pub returns : goal.returns
 returns c =
-    row_made _ (to_z w64 (of_z w64 c.lower-number.result)) _ _ _ c.new.ensures (grind (arith, to_z-of_z)) c.coefficients.ensures
+    row_made _ (to_z w64 (of_z w64 c.lower_number.result)) _ _ _ c.new.ensures (grind (arith, to_z-of_z)) c.coefficients.ensures

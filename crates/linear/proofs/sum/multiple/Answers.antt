@@ -3,8 +3,8 @@ use Rattle.std.proofs.lemmas.Int.{to_z-of_z}
 use Rattle.linear.proofs.Products.{product_small, product_fits}
 use Rattle.linear.proofs.sum.multiple.Goals as goal
 
-pub overflow-mul-result : goal.overflow-mul-result
-overflow-mul-result c = grind (arith, to_z-of_z, product_fits)
+pub overflow_mul-result : goal.overflow_mul-result
+overflow_mul-result c = grind (arith, to_z-of_z, product_fits)
 
 pub returns : goal.returns
 returns c =

@@ -5,4 +5,4 @@ use Rattle.linear.proofs.sum.sum.Goals as goal
 
 pub returns : goal.returns
 returns c =
-    row_made _ (to_z w64 (of_z w64 c.sum-number-constant.result)) _ _ _ c.new.ensures (grind (arith, to_z-of_z)) c.sum-coefficients.ensures
+    row_made _ (to_z w64 (of_z w64 c.sum_number-constant.result)) _ _ _ c.new.ensures (grind (arith, to_z-of_z)) c.sum_coefficients.ensures

@@ -3,4 +3,4 @@ use Rattle.nowhere.proofs.Answers.{literal}
 use Rattle.nowhere.proofs.NowhereTheory.assume.Goals as goal
 
 pub returns : goal.returns
-returns c = (literal c.args.-fact.now, refl)
+returns c = (literal c.args._fact.now, refl)

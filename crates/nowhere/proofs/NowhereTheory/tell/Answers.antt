@@ -3,4 +3,4 @@ use Rattle.nowhere.proofs.Answers.{telling}
 use Rattle.nowhere.proofs.NowhereTheory.tell.Goals as goal
 
 pub returns : goal.returns
-returns c = (telling c.args.-comparison, λ a. refl)
+returns c = (telling c.args._comparison, λ a. refl)

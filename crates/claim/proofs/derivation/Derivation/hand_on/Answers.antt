@@ -12,7 +12,7 @@ use Rattle.claim.proofs.derivation.Derivation.hand_on.Goals as goal
 pub returns-in-Ok : goal.returns-in-Ok
 returns-in-Ok g c =
     let h = c.in-Ok.ensures in
-    (telling_room _ _ h.0, fun_ext h.1, refl, refl, c.add-step.ensures)
+    (telling_room _ _ h.0, fun_ext h.1, refl, refl, c.add_step.ensures)
 
 pub returns-in-Err : goal.returns-in-Err
 returns-in-Err g c =

@@ -11,28 +11,28 @@ use Rattle.claim.proofs.derivation.Derivation.infer.Goals as goal
 pub returns-in-Current : goal.returns-in-Current
 returns-in-Current g c is_open fit s checked =
     let h = c.in-Current.ensures in
-    stepped_fact g.T.Theory.places g.T.Theory.rules c.args.self.now is_open c.requires s c.args.address c.args.inference checked _ _ h.outcome tt h.after refl refl c.add-step.ensures
+    stepped_fact g.T.Theory.places g.T.Theory.rules c.args.self.now is_open c.requires s c.args.address c.args.inference checked _ _ h.outcome tt h.after refl refl c.add_step.ensures
 
 pub returns-in-Pushed : goal.returns-in-Pushed
 returns-in-Pushed g c is_open fit s checked =
     let h = c.in-Pushed.ensures in
-    stepped_fact g.T.Theory.places g.T.Theory.rules c.args.self.now is_open c.requires s c.args.address c.args.inference checked _ _ h.outcome tt h.after refl refl c.add-step-in-Pushed.ensures
+    stepped_fact g.T.Theory.places g.T.Theory.rules c.args.self.now is_open c.requires s c.args.address c.args.inference checked _ _ h.outcome tt h.after refl refl c.add_step-in-Pushed.ensures
 
 pub returns-in-Equal : goal.returns-in-Equal
 returns-in-Equal g c is_open fit s checked =
     let h = c.in-Equal.ensures in
     stepped_equal g.T.Theory.places g.T.Theory.rules c.args.self.now is_open c.requires s c.args.address c.args.inference checked c.in-Equal.left c.in-Equal.right _ _ h.outcome
-    (subst (λ d. HandedOn g.T.Theory.places g.T.Theory.rules c.args.address c.in-Equal.left c.in-Equal.right c.hand-on.result d c.hand-on.new.self) (same_derivation c.args.self.now _ h.stays) c.hand-on.ensures)
+    (subst (λ d. HandedOn g.T.Theory.places g.T.Theory.rules c.args.address c.in-Equal.left c.in-Equal.right c.hand_on.result d c.hand_on.new.self) (same_derivation c.args.self.now _ h.stays) c.hand_on.ensures)
 
 pub returns-in-Contradiction : goal.returns-in-Contradiction
 returns-in-Contradiction g c is_open fit s checked =
     let d = c.args.self.now in
     let h = c.in-Contradiction.ensures in
     let works = subst (Fit g.T.Theory.rules) (is_working g.T.Theory.places g.T.Theory.rules d is_open) fit in
-    let moved = c.finish-branch.ensures.state is_open (subst (λ t. Fit g.T.Theory.rules (working (g.T.Theory.places t) (stack_splits d.stack))) (sym h.stays) works) in
+    let moved = c.finish_branch.ensures.state is_open (subst (λ t. Fit g.T.Theory.rules (working (g.T.Theory.places t) (stack_splits d.stack))) (sym h.stays) works) in
     stepped_end g.T.Theory.places g.T.Theory.rules d is_open c.requires s c.args.address c.args.inference checked _ h.outcome
     (moved ∙ ap (λ t. next g.T.Theory.rules (stack_splits d.stack) (all_dropped (g.T.Theory.places t))) h.stays)
-    (subst (λ k. StepCounted 0 k c.add-step-in-Contradiction.new.self) c.finish-branch.ensures.counts c.add-step-in-Contradiction.ensures)
+    (subst (λ k. StepCounted 0 k c.add_step-in-Contradiction.new.self) c.finish_branch.ensures.counts c.add_step-in-Contradiction.ensures)
 
 pub returns-in-Refused : goal.returns-in-Refused
 returns-in-Refused g c is_open fit s checked =

@@ -5,10 +5,10 @@ pub returns-in-Some : goal.returns-in-Some
 returns-in-Some g c =
     less_full g.T.Theory.rules (g.T.Theory.places c.args.self.now.theory) c.args.left c.args.right _ c.in-Some.ensures
 
-pub returns-in-Some-tell-refusal : goal.returns-in-Some-tell-refusal
-returns-in-Some-tell-refusal g c =
-    equal_full g.T.Theory.rules (g.T.Theory.places c.args.self.now.theory) c.args.left c.args.right _ c.in-Some-tell-refusal.ensures
+pub returns-in-Some-tell_refusal : goal.returns-in-Some-tell_refusal
+returns-in-Some-tell_refusal g c =
+    equal_full g.T.Theory.rules (g.T.Theory.places c.args.self.now.theory) c.args.left c.args.right _ c.in-Some-tell_refusal.ensures
 
 pub returns : goal.returns
 returns g c =
-    last_telling g.T.Theory.rules (g.T.Theory.places c.args.self.now.theory) c.args.left c.args.right c.in-default.ensures c.in-default-tell-refusal.ensures _ c.tell-refusal-3.ensures
+    last_telling g.T.Theory.rules (g.T.Theory.places c.args.self.now.theory) c.args.left c.args.right c.in_default.ensures c.in_default-tell_refusal.ensures _ c.tell_refusal-3.ensures

@@ -14,6 +14,6 @@ pub returns-in-Err : goal.returns-in-Err
 returns-in-Err g c fit =
     stepped_bad g.T.Theory.places g.T.Theory.rules c.args.self.now c.args.step _ c.in-Err.byte (search rules) (cc) c.in-Err.ensures
 
-pub returns-then-is-full : goal.returns-then-is-full
-returns-then-is-full g c fit =
+pub returns-then-is_full : goal.returns-then-is_full
+returns-then-is_full g c fit =
     stepped_many g.T.Theory.places g.T.Theory.rules c.args.self.now c.args.step _ (search rules) (cc) c.in-Ok.ensures.0 (grind (arith, nat_tests))

@@ -12,10 +12,10 @@ returns-in-Err g c =
       after = refl;
     }
 
-pub returns-then-is-full : goal.returns-then-is-full
-returns-then-is-full g c =
+pub returns-then-is_full : goal.returns-then-is_full
+returns-then-is_full g c =
     record {
-      call = too_many g.T.Theory.rules (g.T.Theory.places c.args.self.now.theory) (place_of c.args.self.now.counts) c.args.literal _ c.place-place.ensures _ _ c.because-then-is-full.ensures c.in-Ok.ensures (grind (arith, nat_tests));
+      call = too_many g.T.Theory.rules (g.T.Theory.places c.args.self.now.theory) (place_of c.args.self.now.counts) c.args.literal _ c.place-place.ensures _ _ c.because-then-is_full.ensures c.in-Ok.ensures (grind (arith, nat_tests));
       after = refl;
     }
 
@@ -23,7 +23,7 @@ pub returns-in-Ok-keep : goal.returns-in-Ok-keep
 returns-in-Ok-keep g c =
     record {
       call = LiteralCall.taken _ _ c.in-Ok.ensures (grind (arith, nat_tests)) c.in-Ok-keep.ensures.0 c.in-Ok-keep.ensures.1;
-      after = c.add-literal.ensures;
+      after = c.add_literal.ensures;
     }
 
 pub returns-in-Err-keep : goal.returns-in-Err-keep
