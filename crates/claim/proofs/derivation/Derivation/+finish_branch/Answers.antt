@@ -13,8 +13,8 @@ finish_branch-requires g t c κs within =
     let fewer : length (stack_splits c.args.self.now.stack) ≡ suc (length (stack_splits c.pop.new.self)) = ap length c.in-Some.ensures in
     (omega (arith, c.decreases), within)
 
-pub returns-then-not-next-branch : goal.returns-then-not-next-branch
-returns-then-not-next-branch g t c =
+pub returns-then-not-next_branch : goal.returns-then-not-next_branch
+returns-then-not-next_branch g t c =
     let d = c.args.self.now in
     let last = c.if-not-next_branch.ensures.last in
     record {
@@ -28,8 +28,8 @@ returns-then-not-next-branch g t c =
       counts = c.finish_branch.ensures.counts ∙ c.if-not-next_branch.ensures.counts;
     }
 
-pub returns-else-not-next-branch : goal.returns-else-not-next-branch
-returns-else-not-next-branch g t c =
+pub returns-else-not-next_branch : goal.returns-else-not-next_branch
+returns-else-not-next_branch g t c =
     record {
       state = λ is_open fit.
           let d = c.args.self.now in
