@@ -2,6 +2,7 @@
 use crate::asking::*;
 use equality::Equality;
 use facts::Fact;
+use std::test::Fail;
 use theory::{Inference, Position, Single};
 
 fn follow(fact: u8, turned: bool) -> Inference {

@@ -4,6 +4,7 @@ use equality::Equality;
 use facts::{Comparison, Fact, Relation};
 use linear::{Fractions, Whole};
 use nowhere::Nowhere;
+use std::test::Fail;
 use theory::{Inference, Pair, Single};
 
 fn follow(fact: u8) -> Inference {

@@ -2,6 +2,7 @@
 use crate::asking::*;
 use facts::{Fact, Relation};
 use linear::{Fractions, Whole};
+use std::test::Fail;
 use theory::{Inference, Position, Single};
 
 fn at_least(constant: i64, first: i64, second: i64) -> Fact {

@@ -3,6 +3,7 @@ use crate::asking::*;
 use equality::Equality;
 use facts::{Fact, Relation};
 use linear::Whole;
+use std::test::Fail;
 use theory::{Inference, Single};
 
 #[test]

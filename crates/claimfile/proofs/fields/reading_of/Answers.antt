@@ -3,4 +3,4 @@ use Rattle.claimfile.proofs.Bytes.{reading_parts}
 use Rattle.claimfile.proofs.fields.reading_of.Goals as goal
 
 pub returns : goal.returns
-returns c = reading_parts c.args.body.now _ c.requires refl c.from-le-bytes.ensures (c.type-inv.body 1).fits
+returns c = reading_parts c.args.body.now _ c.requires refl c.from_le_bytes.ensures (c.type_inv.body 1).fits

@@ -8,7 +8,7 @@ returns-in-R c =
     let kind : c.args.kind ≡ 82 = search rules in
     let xs = c.args.body.now in
     let long : length xs ≡ 5 = search rules in
-    record { bytes = of_kind _ 82 xs _ kind (then_at xs _ 0 (omega arith) (last_four xs _ 1 long c.term-at.ensures)); fits = tt }
+    record { bytes = of_kind _ 82 xs _ kind (then_at xs _ 0 (omega arith) (last_four xs _ 1 long c.term_at.ensures)); fits = tt }
 
 pub returns-in-T : goal.returns-in-T
 returns-in-T c =
@@ -50,8 +50,8 @@ returns-in-M c =
     let kind : c.args.kind ≡ 77 = search rules in
     let xs = c.args.body.now in
     let long : length xs ≡ 6 = search rules in
-    let fits : SFits w32 c.number-at.result = search rules in
-    record { bytes = of_kind _ 77 xs _ kind (then_at xs _ 0 (omega arith) (then_at xs _ 1 (omega arith) (ap number_bytes (to_z-of_z fits) ∙ last_four xs _ 2 long c.number-at.ensures.bytes))); fits = subst Fits32 (sym (to_z-of_z fits)) c.number-at.ensures.fits }
+    let fits : SFits w32 c.number_at.result = search rules in
+    record { bytes = of_kind _ 77 xs _ kind (then_at xs _ 0 (omega arith) (then_at xs _ 1 (omega arith) (ap number_bytes (to_z-of_z fits) ∙ last_four xs _ 2 long c.number_at.ensures.bytes))); fits = subst Fits32 (sym (to_z-of_z fits)) c.number_at.ensures.fits }
 
 pub returns-in-Q : goal.returns-in-Q
 returns-in-Q c =
@@ -88,8 +88,8 @@ returns-in-P c =
     let long : length xs ≡ 1 = search rules in
     record { bytes = of_kind _ 80 xs _ kind (last_at xs 0 long); fits = tt }
 
-pub returns-in-default : goal.returns-in-default
-returns-in-default c =
+pub returns-in_default : goal.returns-in_default
+returns-in_default c =
     let kind : c.args.kind ≡ 89 = search rules in
     let xs = c.args.body.now in
     let long : length xs ≡ 2 = search rules in
