@@ -6,4 +6,4 @@ use Rattle.examples.proofs.counts.seal_counts.Goals as goal
 
 pub returns : goal.returns
 returns c =
-    subst (CountsTold both c.args.literals.now c.args.steps.now) (sym c.counts_in.ensures) (told _ (λ v h. (tt, h)) both _ _ _ _ _ c.in-ok-transcript.ensures)
+    subst (CountsTold both c.args.literals.now c.args.steps.now) (sym c.counts_in.ensures) (told _ (λ v h. (tt, h)) both _ _ _ _ _ c.in_ok-transcript.ensures)

@@ -5,4 +5,4 @@ use Rattle.examples.proofs.runs.run_both.Goals as goal
 
 pub returns : goal.returns
 returns c =
-    made_sealed both squeezed _ by_both _ 3 6 0 c.seal-counts.result c.seal-counts.ensures c.squeezed-literals.ensures c.squeezed-steps.ensures both_run
+    made_sealed both squeezed _ by_both _ 3 6 0 c.seal_counts.result c.seal_counts.ensures c.squeezed_literals.ensures c.squeezed_steps.ensures both_run

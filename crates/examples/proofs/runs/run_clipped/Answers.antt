@@ -5,4 +5,4 @@ use Rattle.examples.proofs.runs.run_clipped.Goals as goal
 
 pub returns : goal.returns
 returns c =
-    made_open both clipped _ _ above_scale c.seal-counts.result c.seal-counts.ensures c.clipped-literals.ensures clipped_open
+    made_open both clipped _ _ above_scale c.seal_counts.result c.seal_counts.ensures c.clipped_literals.ensures clipped_open

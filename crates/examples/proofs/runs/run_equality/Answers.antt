@@ -5,4 +5,4 @@ use Rattle.examples.proofs.runs.run_equality.Goals as goal
 
 pub returns : goal.returns
 returns c =
-    made_sealed both congruent _ by_congruence _ 4 5 0 c.seal-counts.result c.seal-counts.ensures c.congruent-literals.ensures c.congruent-steps.ensures equality_run
+    made_sealed both congruent _ by_congruence _ 4 5 0 c.seal_counts.result c.seal_counts.ensures c.congruent_literals.ensures c.congruent_steps.ensures equality_run

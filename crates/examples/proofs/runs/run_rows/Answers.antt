@@ -5,4 +5,4 @@ use Rattle.examples.proofs.runs.run_rows.Goals as goal
 
 pub returns : goal.returns
 returns c =
-    made_sealed both crowded _ by_rows _ 3 9 0 c.seal-counts.result c.seal-counts.ensures c.crowded-literals.ensures c.crowded-steps.ensures rows_run
+    made_sealed both crowded _ by_rows _ 3 9 0 c.seal_counts.result c.seal_counts.ensures c.crowded_literals.ensures c.crowded_steps.ensures rows_run
