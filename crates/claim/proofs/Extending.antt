@@ -1,12 +1,11 @@
 -- A call extends the history that led to it.
-use Rattle.std.proofs.Common.{◌≡◌, ℕ, ◌+◌, List, [], ◌∷◌, ◌++◌, length, Some, None, Ok, Err, Option, sym, refl, ap, ◌∙◌, subst, append-nil, arith}
+use Rattle.std.proofs.Common.{◌≡◌, ◌+◌, List, [], ◌∷◌, ◌++◌, length, Some, None, Ok, Err, Option, sym, ap, ◌∙◌, subst, append-nil, arith}
 use Rattle.std.proofs.lemmas.List.{length-append}
 use Rattle.facts.specs.declared.literal.Literal.{Literal}
 use Rattle.theory.specs.Places.{Places}
 use Rattle.theory.specs.Rules.{Book}
-use Rattle.claim.specs.Calls.{Answer, LiteralCall, StepCall, Levelled}
-use Rattle.claim.specs.Counted.{place_of, LiteralCounted, StepCounted, Counted}
-use Rattle.claim.specs.Derivations.{State, working}
+use Rattle.claim.specs.Calls.{Answer, LiteralCall, StepCall}
+use Rattle.claim.specs.Counted.{place_of, Counted}
 use Rattle.claim.specs.Derived.{state_of, Stepped, Claimed, Reached}
 use Rattle.claim.specs.Histories.{LiteralsSent, StepsSent, if_taken, listed, splits_in}
 use Rattle.claim.specs.Views.{LiteralTaken}
@@ -15,7 +14,6 @@ use Rattle.claim.specs.declared.derivation.Derivation.{Derivation}
 use Rattle.claim.specs.declared.opening.Claim.{Claim}
 use Rattle.claim.specs.declared.sent.SentStep.{SentStep}
 use Rattle.claim.specs.declared.step.Step.{Step}
-use Rattle.claim.proofs.Fitness.{sent_fit, sent_level}
 
 -- ---- literals
 

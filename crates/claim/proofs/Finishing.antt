@@ -1,12 +1,12 @@
 -- How a step changes what is left to do.
-use Rattle.std.proofs.Common.{◌≡◌, ℕ, suc, ◌<◌, ◌≤◌, List, [], ◌∷◌, ◌++◌, length, sym, refl, ap, ◌∙◌, subst}
+use Rattle.std.proofs.Common.{◌≡◌, ℕ, suc, ◌<◌, List, [], ◌∷◌, length, sym, ap, subst}
 use Rattle.facts.specs.declared.fact.Comparison.{Comparison}
 use Rattle.facts.specs.declared.name.Name.{Name}
 use Rattle.theory.specs.Places.{Places}
 use Rattle.theory.specs.Rules.{Book, outcome_at}
 use Rattle.theory.specs.declared.inference.Inference.{Inference}
 use Rattle.theory.specs.declared.inference.Outcome.{Outcome}
-use Rattle.claim.specs.Derivations.{Derives, Then, Unbegun, Waiting, Finishes, State, closed, working, Left, next, by-branch, in_branch, LeavesFact, RoomTold, told, all_opened, all_dropped, changed_at, branch_from, most_splits}
+use Rattle.claim.specs.Derivations.{Derives, Then, Unbegun, Waiting, Finishes, working, Left, next, by-branch, in_branch, LeavesFact, RoomTold, told, all_dropped, changed_at, branch_from, most_splits}
 use Rattle.claim.specs.declared.step.Branch.{Branch}
 use Rattle.claim.specs.declared.step.OpenSplit.{OpenSplit}
 use Rattle.claim.specs.declared.step.Step.{Step}

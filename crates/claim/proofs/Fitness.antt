@@ -1,5 +1,5 @@
 -- Every state that calls lead to has equal levels, and room for the branches that wait.
-use Rattle.std.proofs.Common.{◌≡◌, ℕ, suc, ◌+◌, ◌<◌, ◌≤◌, Bool, true, false, cond, eqb, List, [], ◌∷◌, length, Some, None, Option, sym, refl, ap, ◌∙◌, subst, arith}
+use Rattle.std.proofs.Common.{◌≡◌, ℕ, suc, ◌+◌, ◌<◌, ◌≤◌, Bool, true, false, cond, eqb, List, [], ◌∷◌, length, Some, None, Option, sym, refl, ap, subst, arith}
 use Rattle.std.specs.Option.{option_map}
 use Rattle.facts.specs.declared.fact.Comparison.{Comparison}
 use Rattle.facts.specs.declared.fact.Fact.{Fact}
@@ -8,8 +8,8 @@ use Rattle.theory.specs.Places.{Place, Places, empty, opened, dropped, add, most
 use Rattle.theory.specs.Rules.{Rules, Book, Wanted, telling_wanted, literal_wanted, with_wanted, Room, changed}
 use Rattle.theory.specs.declared.inference.Outcome.{Outcome}
 use Rattle.claim.specs.Calls.{Answer, LiteralCall, StepCall, Levelled, Ready, Fit}
-use Rattle.claim.specs.Derivations.{State, closed, working, next, by-branch, in_branch, RoomTold, told, all_opened, all_dropped, changed_at, branch_from, most_splits}
-use Rattle.claim.specs.Histories.{fresh_places, if_taken, LiteralsSent, StepsSent}
+use Rattle.claim.specs.Derivations.{State, working, next, by-branch, in_branch, RoomTold, told, all_dropped, changed_at, branch_from, most_splits}
+use Rattle.claim.specs.Histories.{fresh_places, LiteralsSent, StepsSent}
 use Rattle.claim.specs.declared.sent.SentStep.{SentStep}
 use Rattle.claim.specs.declared.step.Branch.{Branch}
 use Rattle.claim.specs.declared.step.OpenSplit.{OpenSplit}

@@ -1,5 +1,5 @@
 -- The answers of a literal's call.
-use Rattle.std.proofs.Common.{◌≡◌, ℕ, ◌<◌, ◌≤◌, Some, None, Ok, Err, sym, refl, ap, ◌∙◌, subst}
+use Rattle.std.proofs.Common.{◌≡◌, ℕ, ◌<◌, ◌≤◌, Some, Ok, Err, sym, ap, ◌∙◌, subst}
 use Rattle.facts.specs.Fields.{first_bad, literal_fields}
 use Rattle.facts.specs.Literals.{LiteralChecked}
 use Rattle.facts.specs.declared.fact.Fact.{Fact}

@@ -3,11 +3,10 @@ use Rattle.std.proofs.Common.{◌≡◌, ℕ, suc, ◌<◌, ◌≤◌, Bool, tru
 use Rattle.std.specs.Option.{option_map}
 use Rattle.facts.specs.declared.fact.Comparison.{Comparison}
 use Rattle.facts.specs.declared.fact.Fact.{Fact}
-use Rattle.theory.specs.Places.{Place, Places, opened, dropped, down_to, add}
-use Rattle.theory.specs.Rules.{Book, telling_wanted, with_wanted, changed}
-use Rattle.theory.specs.declared.inference.Outcome.{Outcome}
+use Rattle.theory.specs.Places.{Place, Places, dropped, down_to}
+use Rattle.theory.specs.Rules.{Book}
 use Rattle.claim.specs.Calls.{Levelled, Ready, Fit}
-use Rattle.claim.specs.Derivations.{State, closed, working, next, by-branch, in_branch, RoomTold, told, all_opened, all_dropped, changed_at, branch_from, most_splits}
+use Rattle.claim.specs.Derivations.{State, closed, working, next, by-branch, in_branch, RoomTold, all_dropped, branch_from, most_splits}
 use Rattle.claim.specs.Derived.{Branch-entered, BranchBegun, state_of}
 use Rattle.claim.specs.Stacks.{stack_splits}
 use Rattle.claim.specs.declared.derivation.Derivation.{Derivation}

@@ -1,23 +1,22 @@
 -- The promise over every list of calls.
-use Rattle.std.proofs.Common.{◌≡◌, ℕ, suc, ◌+◌, ◌<◌, ◌≤◌, Bool, true, false, cond, ◌⊎◌, List, [], ◌∷◌, ◌++◌, length, IfSome, Some, None, Ok, Err, Option, sym, refl, ap, ◌∙◌, subst, inl, inr, append_assoc, append-nil, arith}
+use Rattle.std.proofs.Common.{◌≡◌, ℕ, ◌+◌, ◌<◌, true, false, cond, List, [], ◌∷◌, ◌++◌, length, IfSome, Some, None, Ok, Option, sym, refl, ap, subst, inl, inr, append_assoc, append-nil, arith}
 use Rattle.std.proofs.lemmas.List.{length-append}
 use Rattle.std.specs.Option.{option_map}
-use Rattle.facts.specs.Literals.{LiteralTrue, LiteralChecked}
+use Rattle.facts.specs.Literals.{LiteralTrue}
 use Rattle.facts.specs.Valuations.{Valuation, True}
-use Rattle.facts.specs.declared.fact.Fact.{Fact}
 use Rattle.facts.specs.declared.literal.Literal.{Literal}
-use Rattle.theory.specs.Places.{Place, Places, empty}
-use Rattle.theory.specs.Rules.{Rules, Book, AllSound, kept_by, literal_wanted, with_wanted, Took}
+use Rattle.theory.specs.Places.{Places, empty}
+use Rattle.theory.specs.Rules.{Rules, Book, AllSound, kept_by, literal_wanted}
 use Rattle.claim.specs.Calls.{Answer, LiteralCall, StepCall, most_calls}
 use Rattle.claim.specs.Derivations.{Derives, State, closed, working, Left, Finishes, Then}
 use Rattle.claim.specs.Histories.{fresh_places, if_taken, listed, LiteralsSent, StepsSent, AllLiteralsTrue, Promise}
-use Rattle.claim.specs.Sent.{StepChecked, StandsFor}
+use Rattle.claim.specs.Sent.{StepChecked}
 use Rattle.claim.specs.declared.sent.SentStep.{SentStep}
 use Rattle.claim.specs.declared.step.Step.{Step}
 use Rattle.claim.proofs.Finishing.{took_contradiction, took_fact, took_equality, took_split}
 use Rattle.claim.proofs.Inversion.{no_refused, no_equality, no_split, some_step}
-use Rattle.claim.proofs.Parts.{Same, same_refl, same_sym, same_trans, then_end, then_first}
-use Rattle.claim.proofs.Soundness.{PlaceTrue, AllPlacesTrue, OptionTrue, wanted_true, no_valuation}
+use Rattle.claim.proofs.Parts.{Same, same_refl, same_sym, then_end, then_first}
+use Rattle.claim.proofs.Soundness.{AllPlacesTrue, OptionTrue, wanted_true, no_valuation}
 use Rattle.claim.proofs.Standing.{one_step}
 
 -- ---- a call, and what is left

@@ -1,14 +1,14 @@
 -- A whole run keeps the promise.
-use Rattle.std.proofs.Common.{◌≡◌, ℕ, List, [], ◌∷◌, ◌++◌, length, sym, refl, ap, ◌∙◌, subst, arith}
+use Rattle.std.proofs.Common.{◌≡◌, ℕ, List, [], length, refl, ◌∙◌, subst, arith}
 use Rattle.facts.specs.Valuations.{Valuation}
 use Rattle.facts.specs.declared.literal.Literal.{Literal}
 use Rattle.theory.specs.Places.{Places}
 use Rattle.theory.specs.Rules.{Book, AllSound}
 use Rattle.claim.specs.Calls.{Answer}
-use Rattle.claim.specs.Derivations.{Derives, State, closed, working}
+use Rattle.claim.specs.Derivations.{State, closed, working}
 use Rattle.claim.specs.Derived.{state_of, Claimed, Reached}
 use Rattle.claim.specs.Endings.{Ended, SealedWith}
-use Rattle.claim.specs.Histories.{LiteralsSent, StepsSent, Throughout, Promise, splits_in}
+use Rattle.claim.specs.Histories.{LiteralsSent, StepsSent, Throughout, Promise}
 use Rattle.claim.specs.Replays.{Replayed}
 use Rattle.claim.specs.declared.counts.Counts.{Counts}
 use Rattle.claim.specs.declared.derivation.Derivation.{Derivation}

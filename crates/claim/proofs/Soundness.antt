@@ -1,11 +1,10 @@
 -- A derivation leaves no valuation that makes its facts true.
-use Rattle.std.proofs.Common.{◌≡◌, ℕ, ◌<◌, ◌≤◌, Bool, true, false, cond, eqb, leb, ◌⊎◌, List, [], ◌∷◌, ◌++◌, length, ℤ, pos, ◌≤ℤ◌, ◌<ℤ◌, IfSome, Some, None, Option, sym, refl, ap, ◌∙◌, subst, inl, inr, ⊎_elim, arith}
+use Rattle.std.proofs.Common.{◌≡◌, ℕ, Bool, true, false, cond, eqb, leb, List, [], ◌∷◌, ◌++◌, length, ℤ, ◌<ℤ◌, IfSome, Some, None, Option, subst, arith}
 use Rattle.std.proofs.lemmas.Int.{ints, by_lt_z}
 use Rattle.std.specs.Option.{option_map}
 use Rattle.facts.specs.Valuations.{Valuation, True, Compared}
 use Rattle.facts.specs.declared.fact.Comparison.{Comparison}
 use Rattle.facts.specs.declared.fact.Fact.{Fact}
-use Rattle.facts.specs.declared.name.Name.{Name}
 use Rattle.theory.specs.Places.{Place, Places, opened, add, most_facts}
 use Rattle.theory.specs.Rules.{Rules, Book, Sound, AllSound, AllTrue, OutcomeTrue, telling_wanted, told_by, with_wanted, outcome_at, outcome_by, within_room, no_room, changed}
 use Rattle.theory.specs.declared.inference.Inference.{Inference}

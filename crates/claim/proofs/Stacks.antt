@@ -1,5 +1,5 @@
 -- Changes of a stack of splits.
-use Rattle.std.proofs.Common.{◌≡◌, ℕ, ◌+◌, ◌-◌, ◌<◌, ◌≤◌, List, [], ◌∷◌, ◌++◌, reverse, length, get_or, take, set, sym, refl, ap, ◌∙◌, subst, arith}
+use Rattle.std.proofs.Common.{◌≡◌, ◌+◌, ◌-◌, ◌<◌, [], ◌∷◌, reverse, length, get_or, take, set, sym, ap, ◌∙◌, subst, arith}
 use Rattle.std.proofs.lemmas.List.{length-take-le, length-reverse, reverse-append, take_more, take_more_set}
 use Rattle.claim.specs.Stacks.{stack_splits}
 use Rattle.claim.specs.declared.stack.Stack.{Stack}

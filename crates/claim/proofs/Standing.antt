@@ -2,8 +2,6 @@
 use Rattle.std.proofs.Common.{◌≡◌, ℕ, ◌≤◌, Bool, true, false, ℤ, nat_abs, sym, refl, ap, ◌∙◌, subst, arith}
 use native.Mathlib.Bridge.{le_prop}
 use Rattle.facts.specs.Fields.{sent}
-use Rattle.facts.specs.declared.name.Name.{Name}
-use Rattle.facts.specs.declared.symbol.Symbol.{Symbol}
 use Rattle.facts.specs.declared.term.Term.{Term}
 use Rattle.facts.specs.declared.literal.SentTerm.{SentTerm}
 use Rattle.facts.proofs.Indices.{same_name, same_symbol}

@@ -1,5 +1,5 @@
 -- The calls of a derivation, from what its theory answers.
-use Rattle.std.proofs.Common.{◌≡◌, ℕ, ◌<◌, ◌≤◌, Bool, true, false, cond, List, [], ◌∷◌, length, Some, None, Ok, Err, sym, refl, ap, ◌∙◌, subst, arith}
+use Rattle.std.proofs.Common.{◌≡◌, ℕ, ◌<◌, ◌≤◌, true, false, cond, ◌∷◌, length, Some, None, Ok, Err, sym, refl, ap, ◌∙◌, subst}
 use mathlib.Core.Path.{fun_ext}
 use Rattle.facts.specs.declared.fact.Comparison.{Comparison}
 use Rattle.facts.specs.declared.fault.CallFault.{CallFault}
@@ -10,9 +10,9 @@ use Rattle.theory.specs.Places.{Places}
 use Rattle.theory.specs.Rules.{Book, outcome_at, ChangedAt}
 use Rattle.theory.specs.declared.inference.Inference.{Inference}
 use Rattle.theory.specs.declared.inference.Outcome.{Outcome}
-use Rattle.claim.specs.Calls.{Answer, StepCall, because, fault_of, Fit, most_calls}
+use Rattle.claim.specs.Calls.{Answer, StepCall, because, fault_of, most_calls}
 use Rattle.claim.specs.Counted.{place_of, StepCounted, Counted}
-use Rattle.claim.specs.Derivations.{State, closed, working, next, LeavesFact, RoomTold, all_dropped, changed_at, branch_from, most_splits}
+use Rattle.claim.specs.Derivations.{State, closed, working, next, LeavesFact, all_dropped, changed_at, branch_from, most_splits}
 use Rattle.claim.specs.Derived.{state_of, Stepped, HandedOn, SplitAnswer}
 use Rattle.facts.specs.Fields.{first_bad}
 use Rattle.claim.specs.Sent.{StepChecked, step_fields, step_address}

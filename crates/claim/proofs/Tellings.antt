@@ -1,8 +1,8 @@
 -- What a refused telling says.
-use Rattle.std.proofs.Common.{◌≡◌, ℕ, Some, None, Option, sym, refl, ap, ◌∙◌, subst, inl, inr, arith}
+use Rattle.std.proofs.Common.{◌≡◌, ℕ, Some, None, Option, refl, ap, inl, inr, arith}
 use Rattle.facts.specs.declared.refusal.Refusal.{Refusal}
 use Rattle.theory.specs.Places.{Places}
-use Rattle.theory.specs.Rules.{Book, Wanted, Full, Room, TellingAnswer, telling_wanted}
+use Rattle.theory.specs.Rules.{Book, Wanted, Full, TellingAnswer, telling_wanted}
 use Rattle.theory.proofs.Pairs.{telling_room}
 use Rattle.facts.specs.declared.fact.Comparison.{Comparison}
 use Rattle.facts.specs.declared.name.Name.{Name}

@@ -1,5 +1,5 @@
 -- The calls on a claim: what each answers, and what stands afterwards.
-use Rattle.std.specs.Prelude.{◌≡◌, ℕ, suc, ◌+◌, ◌<◌, ◌≤◌, ◌⊎◌, List, [], ◌∷◌, length, Some, None, Ok, Err, Option, Result}
+use Rattle.std.specs.Prelude.{◌≡◌, ℕ, ◌<◌, ◌≤◌, ◌⊎◌, List, [], ◌∷◌, length, Some, None, Ok, Err, Option, Result}
 use Rattle.facts.specs.Fields.{first_bad, literal_fields}
 use Rattle.facts.specs.Literals.{LiteralChecked}
 use Rattle.facts.specs.declared.fact.Comparison.{Comparison}

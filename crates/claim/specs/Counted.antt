@@ -1,6 +1,5 @@
 -- Counts of what a claim has taken.
 use Rattle.std.specs.Prelude.{◌≡◌, ℕ, ◌+◌, Some, None, Option}
-use Rattle.std.proofs.Common.{arith}
 use Rattle.claim.specs.declared.counts.Counts.{Counts}
 use Rattle.claim.specs.declared.step.Step.{Step}
 

@@ -3,7 +3,7 @@ use Rattle.std.specs.Prelude.{◌≡◌, ℕ, suc, ◌<◌, cond, List, [], ◌�
 use Rattle.std.specs.Option.{option_map}
 use Rattle.facts.specs.declared.fact.Comparison.{Comparison}
 use Rattle.facts.specs.declared.name.Name.{Name}
-use Rattle.theory.specs.Places.{Place, Places, opened, dropped}
+use Rattle.theory.specs.Places.{Places, opened, dropped}
 use Rattle.theory.specs.Rules.{Book, telling_wanted, with_wanted, Room, outcome_at, changed}
 use Rattle.theory.specs.declared.inference.Inference.{Inference}
 use Rattle.theory.specs.declared.inference.Outcome.{Outcome}

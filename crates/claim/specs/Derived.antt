@@ -1,5 +1,5 @@
 -- What a derivation stands for.
-use Rattle.std.specs.Prelude.{◌≡◌, ℕ, Bool, true, false, cond, ◌⊎◌, List, [], ◌∷◌, ◌++◌, length, Some, None, Ok, Err, Option}
+use Rattle.std.specs.Prelude.{◌≡◌, ℕ, Bool, true, false, cond, ◌⊎◌, List, ◌∷◌, length, Some, None, Ok, Err, Option}
 use Rattle.facts.specs.declared.name.Name.{Name}
 use Rattle.facts.specs.declared.refusal.Refusal.{Refusal}
 use Rattle.facts.specs.declared.fact.Comparison.{Comparison}
@@ -8,7 +8,7 @@ use Rattle.claim.specs.Calls.{Answer, StepCall, because, fault_of, Levelled}
 use Rattle.claim.specs.Counted.{place_of, StepCounted, Counted}
 use Rattle.theory.specs.Places.{Places}
 use Rattle.claim.specs.Derivations.{State, closed, working, RoomTold, told, branch_from, by-branch, in_branch}
-use Rattle.claim.specs.Histories.{LiteralsSent, StepsSent, splits_in, listed}
+use Rattle.claim.specs.Histories.{LiteralsSent, StepsSent, splits_in}
 use Rattle.claim.specs.Stacks.{stack_splits}
 use Rattle.claim.specs.declared.opening.Claim.{Claim}
 use Rattle.facts.specs.declared.literal.Literal.{Literal}

@@ -1,5 +1,5 @@
 -- What is entered on a sheet.
-use Rattle.std.specs.Prelude.{◌≡◌, ℕ, ◌+◌, ◌<◌, ◌≤◌, List, length, take, Ok, Err, Result, slice_set}
+use Rattle.std.specs.Prelude.{◌≡◌, ℕ, ◌+◌, ◌<◌, ◌≤◌, List, take, Ok, Err, Result, slice_set}
 use Rattle.facts.specs.declared.refusal.Refusal.{Refusal}
 use Rattle.claim.specs.declared.seal.Seal.{Seal}
 use Rattle.claim.specs.declared.sheet.Line.{Line}

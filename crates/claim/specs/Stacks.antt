@@ -1,5 +1,5 @@
 -- The open splits that a stack stands for.
-use Rattle.std.specs.Prelude.{ℕ, List, reverse, take}
+use Rattle.std.specs.Prelude.{List, reverse, take}
 use Rattle.claim.specs.declared.stack.Stack.{Stack}
 use Rattle.claim.specs.declared.step.OpenSplit.{OpenSplit}
 

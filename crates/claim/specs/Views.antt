@@ -1,6 +1,5 @@
 -- What a claim and a derivation stand for.
-use Rattle.std.specs.Prelude.{◌≡◌, ℕ, cond, List, [], Ok, Err, Result}
-use Rattle.theory.specs.Places.{Places}
+use Rattle.std.specs.Prelude.{◌≡◌, Ok, Err}
 use Rattle.claim.specs.Calls.{Answer}
 use Rattle.claim.specs.Counted.{LiteralCounted}
 use Rattle.claim.specs.declared.opening.Claim.{Claim}

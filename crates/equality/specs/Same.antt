@@ -1,5 +1,5 @@
 -- Names with one index are one, and terms that are sent as the same bytes.
-use Rattle.std.specs.Prelude.{◌≡◌, ℕ, ◌&&◌, eqb, Decides}
+use Rattle.std.specs.Prelude.{◌≡◌, Decides}
 use Rattle.std.proofs.Common.{ap, arith}
 use Rattle.std.proofs.lemmas.Bool.Decides.{Decides-eqb, Decides-like, Decides-and}
 use Rattle.facts.specs.Fields.{sent}

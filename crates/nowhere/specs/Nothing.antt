@@ -1,5 +1,5 @@
 -- No rules, and nothing, at every address.
-use Rattle.std.specs.Prelude.{ℕ, None}
+use Rattle.std.specs.Prelude.{None}
 use Rattle.facts.specs.Valuations.{Valuation}
 use Rattle.theory.specs.Places.{Places}
 use Rattle.theory.specs.Rules.{Book}

@@ -1,5 +1,5 @@
 -- Whole parts below.
-use Rattle.std.proofs.Common.{◌≡◌, ℕ, zero, suc, ◌+◌, ◌*◌, ◌/◌, ◌<◌, ◌≤◌, ℤ, pos, negsuc, ◌+ℤ◌, ◌-ℤ◌, ◌*ℤ◌, nat_abs, ◌≤ℤ◌, ◌<ℤ◌, sym, refl, ap, ◌∙◌, subst, le-div_iff_mul-le, div-mul-le_self, arith}
+use Rattle.std.proofs.Common.{ℕ, ◌/◌, ◌≤◌, ℤ, pos, negsuc, ◌+ℤ◌, ◌*ℤ◌, ◌≤ℤ◌, ◌<ℤ◌, le-div_iff_mul-le, div-mul-le_self, arith}
 use Rattle.std.proofs.lemmas.Int.{ints, by_lt_z}
 use Rattle.facts.proofs.Integers.{times_mono}
 use Rattle.reading.specs.Converter.{Floor}

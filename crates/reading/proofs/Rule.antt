@@ -1,16 +1,15 @@
 -- The literals of the reading rule are true exactly where the converter stores the count.
-use Rattle.std.proofs.Common.{◌≡◌, ℕ, zero, suc, ◌+◌, ◌<◌, ◌≤◌, true, false, cond, ltb, ◌⊎◌, ℤ, pos, negsuc, ◌+ℤ◌, ◌-ℤ◌, ◌*ℤ◌, neg_ℤ, nat_abs, ◌≤ℤ◌, ◌<ℤ◌, None, sym, refl, ap, ◌∙◌, subst, inl, inr, ⊎_elim, arith}
+use Rattle.std.proofs.Common.{◌≡◌, ℕ, zero, suc, ◌+◌, ◌<◌, ◌≤◌, cond, ℤ, pos, negsuc, ◌+ℤ◌, ◌-ℤ◌, ◌*ℤ◌, neg_ℤ, nat_abs, ◌≤ℤ◌, ◌<ℤ◌, None, sym, refl, subst, ⊎_elim, arith}
 use lib.IntN.{zero-*ℤ}
-use Rattle.std.specs.Int.{int_min}
 use Rattle.std.proofs.lemmas.Int.{ints, by_lt_z, clamps}
 use Rattle.std.proofs.lemmas.Bool.Decides.{nat_tests, leb_tells}
 use Rattle.facts.proofs.Integers.{times_mono, one_times, neg_times}
 use Rattle.facts.specs.Fields.{first_bad, literal_fields}
-use Rattle.facts.specs.Literals.{LiteralTrue, sent_row_number}
+use Rattle.facts.specs.Literals.{LiteralTrue}
 use Rattle.facts.specs.Valuations.{Valuation}
 use Rattle.facts.specs.declared.name.Name.{Name}
 use Rattle.reading.specs.Bounds.{bound_literal, bounds_list}
-use Rattle.reading.specs.Converter.{Floor, Stores, AllTrue, AllGood, Taken, rule, highest_count}
+use Rattle.reading.specs.Converter.{Stores, AllTrue, AllGood, Taken, rule, highest_count}
 use Rattle.reading.specs.declared.bound.Bound.{Bound}
 use Rattle.reading.specs.declared.bound.Bounds.{Bounds}
 use Rattle.reading.specs.declared.count.SentReading.{SentReading}

@@ -1,5 +1,5 @@
 -- The converter, and the rule that turns what it stored into literals.
-use Rattle.std.specs.Prelude.{◌≡◌, ℕ, ◌+◌, ◌<◌, ◌≤◌, cond, List, [], ◌∷◌, ℤ, pos, ◌*ℤ◌, ◌≤ℤ◌, Some, None, Ok, Err, Result, nat_le, nat_lt}
+use Rattle.std.specs.Prelude.{◌≡◌, ℕ, ◌+◌, cond, List, [], ◌∷◌, ℤ, pos, ◌*ℤ◌, ◌≤ℤ◌, Some, None, Ok, Err, Result, nat_le, nat_lt}
 use Rattle.std.specs.Int.{int_min}
 use Rattle.facts.specs.Fields.{Field, field, first_bad, literal_fields}
 use Rattle.facts.specs.Literals.{LiteralTrue}

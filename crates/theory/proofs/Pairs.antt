@@ -1,5 +1,5 @@
 -- Statements over all addresses of two theories side by side.
-use Rattle.std.proofs.Common.{◌≡◌, ℕ, ◌+◌, ◌-◌, ◌*◌, ◌/◌, ◌%◌, ◌<◌, ◌≤◌, Bool, true, false, cond, eqb, ◌⊎◌, length, is_some, Some, None, Ok, Err, Option, Result, sym, refl, ap, ◌∙◌, subst, inl, inr, ⊎_elim, arith}
+use Rattle.std.proofs.Common.{◌≡◌, ℕ, ◌+◌, ◌-◌, ◌*◌, ◌/◌, ◌%◌, ◌<◌, Bool, true, false, cond, eqb, length, is_some, Some, None, Ok, Err, Option, Result, sym, refl, ap, ◌∙◌, subst, ⊎_elim, arith}
 use mathlib.Core.Path.{fun_ext}
 use Rattle.std.proofs.lemmas.Bool.Decides.{eqb_tells}
 use Rattle.std.specs.Option.{option_map}
@@ -8,7 +8,7 @@ use Rattle.facts.specs.declared.fact.Fact.{Fact}
 use Rattle.facts.specs.declared.refusal.Refusal.{Refusal}
 use Rattle.theory.specs.Pairs.{beside}
 use Rattle.theory.specs.Places.{Place, Places, most_facts, most_below}
-use Rattle.theory.specs.Rules.{Rules, Book, Wanted, literal_wanted, telling_wanted, kept_by, told_by, with_wanted, Unwanted, WantedSomewhere, Room, Full, Took, Answered, LiteralAnswer, TellingAnswer, OpeningAnswer, DroppingAnswer}
+use Rattle.theory.specs.Rules.{Book, Wanted, literal_wanted, telling_wanted, kept_by, told_by, with_wanted, Unwanted, WantedSomewhere, Room, Full, Took, Answered, LiteralAnswer, TellingAnswer, OpeningAnswer, DroppingAnswer}
 
 -- ---- where an address of a side lies
 

@@ -1,5 +1,5 @@
 -- Statements over all addresses, where something stands at address 0 alone.
-use Rattle.std.proofs.Common.{◌≡◌, ℕ, ◌<◌, ◌≤◌, Bool, true, false, cond, eqb, ◌⊎◌, length, Some, None, Option, sym, refl, ap, ◌∙◌, subst, inl, inr, ⊎_elim, arith}
+use Rattle.std.proofs.Common.{◌≡◌, ℕ, ◌<◌, ◌≤◌, Bool, true, false, cond, eqb, length, Some, None, Option, sym, refl, ap, ◌∙◌, subst, ⊎_elim, arith}
 use Rattle.std.proofs.lemmas.Bool.Decides.{leb_tells}
 use Rattle.std.specs.Option.{option_map}
 use Rattle.facts.specs.declared.fact.Comparison.{Comparison}
@@ -7,7 +7,7 @@ use Rattle.facts.specs.declared.fact.Fact.{Fact}
 use Rattle.facts.specs.declared.fault.Cause.{Cause}
 use Rattle.facts.specs.declared.refusal.Refusal.{Refusal}
 use Rattle.theory.specs.Places.{Place, Places, add, most_facts, most_below}
-use Rattle.theory.specs.Rules.{Rules, outcome_at, within_room, no_room, changed, ChangedAt, Wanted, literal_wanted, telling_wanted, kept_by, told_by, with_wanted, Unwanted, Room, Full, Took, LiteralAnswer, TellingAnswer, OpeningAnswer, DroppingAnswer}
+use Rattle.theory.specs.Rules.{Rules, outcome_at, within_room, no_room, changed, ChangedAt, Wanted, literal_wanted, telling_wanted, kept_by, told_by, with_wanted, Room, Full, Took, LiteralAnswer, TellingAnswer, OpeningAnswer, DroppingAnswer}
 use Rattle.theory.specs.Singles.{at_zero, alone}
 use Rattle.theory.specs.declared.inference.Inference.{Inference}
 use Rattle.theory.specs.declared.inference.Outcome.{Outcome}

@@ -4,7 +4,7 @@ use Rattle.std.proofs.lemmas.Bool.Decides.{leb_tells}
 use Rattle.std.proofs.lemmas.List.{length-take-le, length-map, length-reverse, reverse-append, take_more, take_more_set, take-set-le}
 use Rattle.facts.specs.declared.fact.Fact.{Fact}
 use Rattle.theory.specs.Marks.{Ordered, in_order}
-use Rattle.theory.specs.Places.{Place, add, opened, dropped, down_to, most_facts, most_below}
+use Rattle.theory.specs.Places.{add, down_to, most_facts, most_below}
 use Rattle.theory.specs.Tables.{table_facts, table_marks, table_below, table_place, RowWritten, LevelOpened, LevelDropped}
 use Rattle.theory.specs.declared.table.Table.{Table}
 

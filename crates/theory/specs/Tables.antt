@@ -1,5 +1,5 @@
 -- The levels of facts that a table stands for.
-use Rattle.std.specs.Prelude.{◌≡◌, ℕ, ◌+◌, ◌<◌, ◌≤◌, List, [], ◌∷◌, ◌++◌, map, reverse, length, take, None, Option, slice_set}
+use Rattle.std.specs.Prelude.{◌≡◌, ℕ, ◌<◌, List, [], ◌∷◌, ◌++◌, map, reverse, length, take, None, Option, slice_set}
 use Rattle.facts.specs.declared.fact.Fact.{Fact}
 use Rattle.theory.specs.Places.{Place, opened, dropped, most_facts, most_below}
 use Rattle.theory.specs.declared.table.Table.{Table}

@@ -1,6 +1,5 @@
-use Rattle.std.proofs.Common.{◌≡◌, sym, refl, ap, subst, arith}
+use Rattle.std.proofs.Common.{sym, refl, arith}
 use Rattle.std.proofs.lemmas.List.{take_more, take_all}
-use Rattle.claim.specs.Derived.{Claimed}
 use Rattle.claim.proofs.Extending.{claimed_at}
 use Rattle.claim.proofs.run.send_literals.Goals as goal
 

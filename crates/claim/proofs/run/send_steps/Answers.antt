@@ -1,6 +1,5 @@
-use Rattle.std.proofs.Common.{◌≡◌, sym, refl, ap, subst, arith}
+use Rattle.std.proofs.Common.{sym, refl, arith}
 use Rattle.std.proofs.lemmas.List.{take_more, take_all}
-use Rattle.claim.specs.Derived.{Reached}
 use Rattle.claim.proofs.Extending.{reached_at}
 use Rattle.claim.proofs.run.send_steps.Goals as goal
 

@@ -1,4 +1,3 @@
-use Rattle.std.proofs.Common.{refl}
 use Rattle.nowhere.proofs.Answers.{literal}
 use Rattle.nowhere.proofs.NowhereTheory.assume_refusal.Goals as goal
 

@@ -1,4 +1,3 @@
-use Rattle.std.proofs.Common.{refl}
 use Rattle.nowhere.proofs.Answers.{dropping}
 use Rattle.nowhere.proofs.NowhereTheory.drop_refusal.Goals as goal
 

@@ -1,4 +1,3 @@
-use Rattle.std.proofs.Common.{refl}
 use Rattle.nowhere.proofs.Answers.{opening}
 use Rattle.nowhere.proofs.NowhereTheory.open_refusal.Goals as goal
 

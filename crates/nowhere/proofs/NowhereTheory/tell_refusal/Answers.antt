@@ -1,4 +1,3 @@
-use Rattle.std.proofs.Common.{refl}
 use Rattle.nowhere.proofs.Answers.{telling}
 use Rattle.nowhere.proofs.NowhereTheory.tell_refusal.Goals as goal
 

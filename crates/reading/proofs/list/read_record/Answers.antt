@@ -1,4 +1,4 @@
-use Rattle.std.proofs.Common.{get_or, arith, rules}
+use Rattle.std.proofs.Common.{get_or, rules}
 use Rattle.reading.specs.declared.count.SentReading.{SentReading}
 use Rattle.reading.proofs.Lists.{unknown_kind, cut_short, bad_fields, four_bytes}
 use Rattle.reading.proofs.list.read_record.Goals as goal

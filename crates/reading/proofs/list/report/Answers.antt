@@ -1,4 +1,4 @@
-use Rattle.std.proofs.Common.{◌≤◌, length, arith, rules}
+use Rattle.std.proofs.Common.{◌≤◌, arith, rules}
 use Rattle.std.proofs.lemmas.List.{take_rest}
 use Rattle.reading.proofs.Lists.{report_long, stopped, finished, one_more, within, few_bounds}
 use Rattle.reading.proofs.list.report.Goals as goal

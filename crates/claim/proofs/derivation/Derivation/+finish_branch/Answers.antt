@@ -1,4 +1,4 @@
-use Rattle.std.proofs.Common.{◌≡◌, suc, length, sym, refl, ap, ◌∙◌, subst, arith, rules}
+use Rattle.std.proofs.Common.{◌≡◌, suc, length, sym, refl, ap, ◌∙◌, subst, arith}
 use Rattle.claim.specs.Calls.{Fit}
 use Rattle.claim.specs.Derivations.{working, next, all_dropped}
 use Rattle.claim.specs.Derived.{state_of}

@@ -1,4 +1,4 @@
-use Rattle.std.proofs.Common.{◌≡◌, length, sym, refl, ap, ◌∙◌}
+use Rattle.std.proofs.Common.{length, refl, ap, ◌∙◌}
 use mathlib.Core.Path.{fun_ext}
 use Rattle.theory.specs.Rules.{telling_wanted}
 use Rattle.facts.specs.declared.fact.Comparison.{Comparison}

@@ -1,8 +1,8 @@
-use Rattle.std.proofs.Common.{◌≡◌, length, sym, refl, ap, ◌∙◌, subst}
-use Rattle.claim.specs.Calls.{Fit, fault_of}
-use Rattle.claim.specs.Counted.{place_of, StepCounted}
+use Rattle.std.proofs.Common.{sym, refl, ap, ◌∙◌, subst}
+use Rattle.claim.specs.Calls.{Fit}
+use Rattle.claim.specs.Counted.{StepCounted}
 use Rattle.claim.specs.Derivations.{working, next, all_dropped}
-use Rattle.claim.specs.Derived.{state_of, HandedOn}
+use Rattle.claim.specs.Derived.{HandedOn}
 use Rattle.claim.specs.Stacks.{stack_splits}
 use Rattle.claim.proofs.Stepping.{is_working, stepped_fact, stepped_end, stepped_refused, stepped_equal}
 use Rattle.claim.proofs.Tellings.{same_derivation}

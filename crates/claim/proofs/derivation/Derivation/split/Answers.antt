@@ -1,4 +1,4 @@
-use Rattle.std.proofs.Common.{◌≡◌, ◌<◌, length, sym, refl, ap, ◌∙◌, subst, arith}
+use Rattle.std.proofs.Common.{◌<◌, length, refl, subst, arith}
 use Rattle.claim.specs.Calls.{Fit}
 use Rattle.claim.specs.Stacks.{stack_splits}
 use Rattle.claim.proofs.Moves.{was_pushed}

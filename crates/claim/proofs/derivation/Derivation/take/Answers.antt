@@ -1,8 +1,5 @@
-use Rattle.std.proofs.Common.{◌≡◌, length, sym, refl, ap, ◌∙◌, arith, rules}
+use Rattle.std.proofs.Common.{arith, rules}
 use Rattle.std.proofs.lemmas.Bool.Decides.{nat_tests}
-use Rattle.claim.specs.Calls.{fault_of, because}
-use Rattle.claim.specs.Counted.{place_of}
-use Rattle.claim.specs.Stacks.{stack_splits}
 use Rattle.claim.proofs.Stepping.{stepped_over, stepped_bad, stepped_many}
 use Rattle.claim.proofs.derivation.Derivation.take.Goals as goal
 

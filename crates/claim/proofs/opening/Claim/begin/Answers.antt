@@ -1,4 +1,4 @@
-use Rattle.std.proofs.Common.{◌≡◌, [], length, sym, refl, ap, ◌∙◌, subst}
+use Rattle.std.proofs.Common.{[], length, sym, ap, ◌∙◌, subst}
 use Rattle.claim.specs.Histories.{StepsSent}
 use Rattle.claim.proofs.Fitness.{sent_level}
 use Rattle.claim.proofs.opening.Claim.begin.Goals as goal

@@ -1,4 +1,4 @@
-use Rattle.std.proofs.Common.{◌≡◌, [], sym, refl, subst}
+use Rattle.std.proofs.Common.{[], sym, subst}
 use mathlib.Core.Path.{fun_ext}
 use Rattle.claim.specs.Histories.{LiteralsSent}
 use Rattle.claim.proofs.opening.Claim.open.Goals as goal

@@ -1,4 +1,4 @@
-use Rattle.std.proofs.Common.{Err, sym, refl, ap, subst, arith, rules}
+use Rattle.std.proofs.Common.{Err, sym, refl, subst, arith}
 use Rattle.std.proofs.lemmas.Bool.Decides.{nat_tests}
 use Rattle.claim.specs.Calls.{LiteralCall}
 use Rattle.claim.specs.Counted.{place_of}

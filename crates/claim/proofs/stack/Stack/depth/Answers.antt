@@ -1,4 +1,4 @@
-use Rattle.std.proofs.Common.{sym, refl, arith}
+use Rattle.std.proofs.Common.{sym}
 use Rattle.claim.proofs.Stacks.{splits_count}
 use Rattle.claim.proofs.stack.Stack.depth.Goals as goal
 

@@ -1,4 +1,4 @@
-use Rattle.std.proofs.Common.{sym, refl, arith}
+use Rattle.std.proofs.Common.{arith}
 use Rattle.claim.proofs.Stacks.{splits_popped}
 use Rattle.claim.proofs.stack.Stack.pop.Goals as goal
 

@@ -1,4 +1,3 @@
-use Rattle.std.proofs.Common.{refl}
 use Rattle.theory.proofs.Pairs.{pair_literal}
 use Rattle.theory.proofs.pair.PairTheory.assume_refusal.Goals as goal
 

@@ -1,4 +1,3 @@
-use Rattle.std.proofs.Common.{refl}
 use Rattle.theory.proofs.Pairs.{dropping_left, dropping_right}
 use Rattle.theory.proofs.pair.PairTheory.drop_refusal.Goals as goal
 

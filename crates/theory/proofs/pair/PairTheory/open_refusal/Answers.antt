@@ -1,4 +1,3 @@
-use Rattle.std.proofs.Common.{refl}
 use Rattle.theory.proofs.Pairs.{opening_left, opening_right}
 use Rattle.theory.proofs.pair.PairTheory.open_refusal.Goals as goal
 

@@ -1,4 +1,3 @@
-use Rattle.std.proofs.Common.{refl}
 use Rattle.theory.proofs.Pairs.{pair_telling_left, pair_telling_right}
 use Rattle.theory.proofs.pair.PairTheory.tell_refusal.Goals as goal
 

@@ -1,5 +1,4 @@
-use Rattle.std.proofs.Common.{◌≡◌, true, false, sym, refl, ap, ◌∙◌, arith, rules}
-use Rattle.std.proofs.lemmas.Bool.Decides.{nat_tests}
+use Rattle.std.proofs.Common.{refl, rules}
 use Rattle.theory.specs.Singles.{single_place}
 use Rattle.theory.proofs.Singles.{same_single, not_kept, literal_full, literal_taken, literal_took}
 use Rattle.theory.proofs.Tables.{written_place}

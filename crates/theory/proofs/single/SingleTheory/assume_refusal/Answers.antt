@@ -1,6 +1,5 @@
-use Rattle.std.proofs.Common.{◌≡◌, true, false, sym, refl, ap, ◌∙◌, arith, rules}
+use Rattle.std.proofs.Common.{arith, rules}
 use Rattle.std.proofs.lemmas.Bool.Decides.{nat_tests}
-use Rattle.theory.specs.Singles.{single_place}
 use Rattle.theory.proofs.Singles.{not_kept, literal_full, literal_taken}
 use Rattle.theory.proofs.single.SingleTheory.assume_refusal.Goals as goal
 

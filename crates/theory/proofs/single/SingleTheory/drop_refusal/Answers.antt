@@ -1,5 +1,4 @@
-use Rattle.std.proofs.Common.{◌≡◌, true, false, sym, refl, ap, ◌∙◌, arith, rules}
-use Rattle.std.proofs.lemmas.Bool.Decides.{nat_tests}
+use Rattle.std.proofs.Common.{arith}
 use Rattle.theory.specs.Singles.{single_place}
 use Rattle.theory.proofs.Singles.{dropping_limit, dropping_taken}
 use Rattle.theory.proofs.single.SingleTheory.drop_refusal.Goals as goal

@@ -1,4 +1,4 @@
-use Rattle.std.proofs.Common.{sym, ap, ◌∙◌, arith, rules}
+use Rattle.std.proofs.Common.{ap, ◌∙◌, arith}
 use Rattle.theory.specs.Rules.{no_room}
 use Rattle.theory.specs.Singles.{single_place, single_places}
 use Rattle.theory.proofs.Singles.{same_single, refused_push, refused_at}

@@ -1,5 +1,4 @@
-use Rattle.std.proofs.Common.{◌≡◌, true, false, sym, refl, ap, ◌∙◌, arith, rules}
-use Rattle.std.proofs.lemmas.Bool.Decides.{nat_tests}
+use Rattle.std.proofs.Common.{ap, ◌∙◌}
 use Rattle.theory.specs.Singles.{single_place}
 use Rattle.theory.proofs.Singles.{same_single, opening_limit, opening_taken, mapped_zero}
 use Rattle.theory.specs.Places.{opened}

@@ -1,5 +1,3 @@
-use Rattle.std.proofs.Common.{◌≡◌, true, false, sym, refl, ap, ◌∙◌, arith, rules}
-use Rattle.std.proofs.lemmas.Bool.Decides.{nat_tests}
 use Rattle.theory.specs.Singles.{single_place}
 use Rattle.theory.proofs.Singles.{same_single, telling_full, telling_taken, telling_took, telling_none}
 use Rattle.theory.proofs.Tables.{written_place}

@@ -1,6 +1,5 @@
-use Rattle.std.proofs.Common.{◌≡◌, true, false, sym, refl, ap, ◌∙◌, arith, rules}
+use Rattle.std.proofs.Common.{arith}
 use Rattle.std.proofs.lemmas.Bool.Decides.{nat_tests}
-use Rattle.theory.specs.Singles.{single_place}
 use Rattle.theory.proofs.Singles.{telling_full, telling_taken, telling_none}
 use Rattle.theory.proofs.single.SingleTheory.tell_refusal.Goals as goal
 

@@ -1,5 +1,4 @@
-use Rattle.std.proofs.Common.{◌-◌, ◌≤◌, reverse, length, get_or, take, sym, refl, subst, arith, rules}
-use Rattle.std.proofs.lemmas.List.{length-set}
+use Rattle.std.proofs.Common.{◌-◌, reverse, get_or, take, refl, subst, arith}
 use Rattle.theory.specs.Marks.{Ordered}
 use Rattle.theory.proofs.Tables.{ordered_less, mark_within, marks_dropped, level_dropped}
 use Rattle.theory.proofs.table.Table.drop_level.Goals as goal

@@ -1,6 +1,4 @@
-use Rattle.std.proofs.Common.{◌≤◌, length, sym, refl, subst, arith, rules}
-use Rattle.std.proofs.lemmas.List.{length-set}
-use Rattle.theory.specs.Marks.{Ordered}
+use Rattle.std.proofs.Common.{refl, arith}
 use Rattle.theory.proofs.Tables.{ordered_more, row_written}
 use Rattle.theory.proofs.table.Table.push.Goals as goal
 
