@@ -6,7 +6,7 @@ use Rattle.theory.specs.Places.{Places}
 use Rattle.theory.specs.Rules.{Book, outcome_at}
 use Rattle.theory.specs.declared.inference.Inference.{Inference}
 use Rattle.theory.specs.declared.inference.Outcome.{Outcome}
-use Rattle.claim.specs.Derivations.{Derives, Then, Unbegun, Waiting, Finishes, working, Left, next, by-branch, in_branch, LeavesFact, RoomTold, told, all_dropped, changed_at, branch_from, most_splits}
+use Rattle.claim.specs.Derivations.{Derives, Then, Unbegun, Waiting, Finishes, working, Left, next, by_branch, in_branch, LeavesFact, RoomTold, told, all_dropped, changed_at, branch_from, most_splits}
 use Rattle.claim.specs.declared.step.Branch.{Branch}
 use Rattle.claim.specs.declared.step.OpenSplit.{OpenSplit}
 use Rattle.claim.specs.declared.step.Step.{Step}
@@ -48,7 +48,7 @@ module _ (book : Book) where
         subst (λ x. Same (Then G Q) (Then G (Then (λ w. w ≡ []) (Waiting book ss x)))) (sym (dropped_twice book greater ps))
         (then_right G Q (Then (λ w. w ≡ []) Q) (same_sym (Then (λ w. w ≡ []) Q) Q (then_none Q)))
 
-  next_by_branch : (s : OpenSplit) (ss : List OpenSplit) (ps : Places) → Same (Waiting book ss (all_dropped ps)) (Left book (next book ss (all_dropped ps))) → (b : Branch) → Same (Then (Unbegun book (suc (length ss)) s.left s.right b ps) (Waiting book ss (all_dropped ps))) (Left book (by-branch b (working (branch_from book (Comparison.Equal s.left s.right) ps) (in_branch s Branch.Second ∷ ss)) (working (branch_from book (Comparison.Greater s.left s.right) ps) (in_branch s Branch.Third ∷ ss)) (next book ss (all_dropped ps))))
+  next_by_branch : (s : OpenSplit) (ss : List OpenSplit) (ps : Places) → Same (Waiting book ss (all_dropped ps)) (Left book (next book ss (all_dropped ps))) → (b : Branch) → Same (Then (Unbegun book (suc (length ss)) s.left s.right b ps) (Waiting book ss (all_dropped ps))) (Left book (by_branch b (working (branch_from book (Comparison.Equal s.left s.right) ps) (in_branch s Branch.Second ∷ ss)) (working (branch_from book (Comparison.Greater s.left s.right) ps) (in_branch s Branch.Third ∷ ss)) (next book ss (all_dropped ps))))
   next_by_branch s ss ps rest Branch.First = second_next s ss ps
   next_by_branch s ss ps rest Branch.Second = third_next s ss ps
   next_by_branch s ss ps rest Branch.Third =

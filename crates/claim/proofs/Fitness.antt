@@ -8,7 +8,7 @@ use Rattle.theory.specs.Places.{Place, Places, empty, opened, dropped, add, most
 use Rattle.theory.specs.Rules.{Rules, Book, Wanted, telling_wanted, literal_wanted, with_wanted, Room, changed}
 use Rattle.theory.specs.declared.inference.Outcome.{Outcome}
 use Rattle.claim.specs.Calls.{Answer, LiteralCall, StepCall, Levelled, Ready, Fit}
-use Rattle.claim.specs.Derivations.{State, working, next, by-branch, in_branch, RoomTold, told, all_dropped, changed_at, branch_from, most_splits}
+use Rattle.claim.specs.Derivations.{State, working, next, by_branch, in_branch, RoomTold, told, all_dropped, changed_at, branch_from, most_splits}
 use Rattle.claim.specs.Histories.{fresh_places, LiteralsSent, StepsSent}
 use Rattle.claim.specs.declared.sent.SentStep.{SentStep}
 use Rattle.claim.specs.declared.step.Branch.{Branch}
@@ -100,7 +100,7 @@ branch_fit : (book : Book) (k : Comparison) (s : OpenSplit) (b : Branch) (ss : L
 branch_fit book k s b ss ps h ready =
     (levelled_branch book k (length ss) ps h.0, (let few = h.1 in omega arith), branch_ready book k (in_branch s b) ss ps ready.0 ready.1 ready.2)
 
-next_by : (book : Book) (s : OpenSplit) (ss : List OpenSplit) (ps : Places) → Under (s ∷ ss) ps → Ready book (s ∷ ss) ps → Fit book (next book ss (all_dropped ps)) → (b : Branch) → Fit book (by-branch b (working (branch_from book (Comparison.Equal s.left s.right) ps) (in_branch s Branch.Second ∷ ss)) (working (branch_from book (Comparison.Greater s.left s.right) ps) (in_branch s Branch.Third ∷ ss)) (next book ss (all_dropped ps)))
+next_by : (book : Book) (s : OpenSplit) (ss : List OpenSplit) (ps : Places) → Under (s ∷ ss) ps → Ready book (s ∷ ss) ps → Fit book (next book ss (all_dropped ps)) → (b : Branch) → Fit book (by_branch b (working (branch_from book (Comparison.Equal s.left s.right) ps) (in_branch s Branch.Second ∷ ss)) (working (branch_from book (Comparison.Greater s.left s.right) ps) (in_branch s Branch.Third ∷ ss)) (next book ss (all_dropped ps)))
 next_by book s ss ps h ready outer Branch.First = branch_fit book (Comparison.Equal s.left s.right) s Branch.Second ss ps h ready
 next_by book s ss ps h ready outer Branch.Second = branch_fit book (Comparison.Greater s.left s.right) s Branch.Third ss ps h ready
 next_by book s ss ps h ready outer Branch.Third = outer

@@ -6,8 +6,8 @@ use Rattle.facts.specs.declared.fact.Fact.{Fact}
 use Rattle.theory.specs.Places.{Place, Places, dropped, down_to}
 use Rattle.theory.specs.Rules.{Book}
 use Rattle.claim.specs.Calls.{Levelled, Ready, Fit}
-use Rattle.claim.specs.Derivations.{State, closed, working, next, by-branch, in_branch, RoomTold, all_dropped, branch_from, most_splits}
-use Rattle.claim.specs.Derived.{Branch-entered, BranchBegun, state_of}
+use Rattle.claim.specs.Derivations.{State, closed, working, next, by_branch, in_branch, RoomTold, all_dropped, branch_from, most_splits}
+use Rattle.claim.specs.Derived.{BranchEntered, BranchBegun, state_of}
 use Rattle.claim.specs.Stacks.{stack_splits}
 use Rattle.claim.specs.declared.derivation.Derivation.{Derivation}
 use Rattle.claim.specs.declared.stack.Stack.{Stack}
@@ -20,11 +20,11 @@ was_pushed n P Q true few h = h.1
 was_pushed n P Q false few h = absurd (omega (arith, h.0))
 
 module _ {T : Type 0} (places_of : T → Places) (book : Book) (s : OpenSplit) (before after : Derivation T) where
-  pub first_entered : s.branch ≡ Branch.First → Branch-entered places_of book s (Comparison.Equal s.left s.right) Branch.Second before after → BranchBegun places_of book s true before after
-  first_entered e h = subst (λ b. by-branch b (Branch-entered places_of book s (Comparison.Equal s.left s.right) Branch.Second before after) (Branch-entered places_of book s (Comparison.Greater s.left s.right) Branch.Third before after) ⊥) (sym e) h
+  pub first_entered : s.branch ≡ Branch.First → BranchEntered places_of book s (Comparison.Equal s.left s.right) Branch.Second before after → BranchBegun places_of book s true before after
+  first_entered e h = subst (λ b. by_branch b (BranchEntered places_of book s (Comparison.Equal s.left s.right) Branch.Second before after) (BranchEntered places_of book s (Comparison.Greater s.left s.right) Branch.Third before after) ⊥) (sym e) h
 
-  pub second_entered : s.branch ≡ Branch.Second → Branch-entered places_of book s (Comparison.Greater s.left s.right) Branch.Third before after → BranchBegun places_of book s true before after
-  second_entered e h = subst (λ b. by-branch b (Branch-entered places_of book s (Comparison.Equal s.left s.right) Branch.Second before after) (Branch-entered places_of book s (Comparison.Greater s.left s.right) Branch.Third before after) ⊥) (sym e) h
+  pub second_entered : s.branch ≡ Branch.Second → BranchEntered places_of book s (Comparison.Greater s.left s.right) Branch.Third before after → BranchBegun places_of book s true before after
+  second_entered e h = subst (λ b. by_branch b (BranchEntered places_of book s (Comparison.Equal s.left s.right) Branch.Second before after) (BranchEntered places_of book s (Comparison.Greater s.left s.right) Branch.Third before after) ⊥) (sym e) h
 
 -- ---- levels and room are kept
 
@@ -47,7 +47,7 @@ levelled_dropped n ps h a p stands = at (ps a) refl stands
 -- ---- out of a branch
 
 -- what a popped split and a dropped level leave
-pub record Left-branch {T : Type 0} (places_of : T → Places) (book : Book) (s : OpenSplit) (before : Places) (t : T) (k : Stack) : Type 0 where
+pub record LeftBranch {T : Type 0} (places_of : T → Places) (book : Book) (s : OpenSplit) (before : Places) (t : T) (k : Stack) : Type 0 where
   pub dropped : places_of t ≡ all_dropped before
   pub levelled : Levelled (length (stack_splits k)) (places_of t)
   pub few : length (stack_splits k) < most_splits
@@ -56,7 +56,7 @@ pub record Left-branch {T : Type 0} (places_of : T → Places) (book : Book) (s 
   pub ready : Ready book (stack_splits k) (all_dropped (places_of t))
 
 module _ {T : Type 0} (places_of : T → Places) (book : Book) (s : OpenSplit) (t₀ : T) (k₀ : Stack) (t : T) (k : Stack) (popped : stack_splits k₀ ≡ s ∷ stack_splits k) (ended : (n : ℕ) → Levelled (suc n) (places_of t₀) → places_of t ≡ all_dropped (places_of t₀)) (fit : Fit book (working (places_of t₀) (stack_splits k₀))) where
-  pub left_branch : Left-branch places_of book s (places_of t₀) t k
+  pub left_branch : LeftBranch places_of book s (places_of t₀) t k
   left_branch =
       let whole = subst (λ ss. Fit book (working (places_of t₀) ss)) popped fit in
       let down = ended (length (stack_splits k)) whole.0 in
@@ -78,13 +78,13 @@ module _ {T : Type 0} (places_of : T → Places) (book : Book) (s : OpenSplit) (
       from : places_of mid.theory ≡ all_dropped (places_of t₀)
       from = ap places_of theory ∙ left_branch.dropped
 
-      state_is : (c : Comparison) (b : Branch) → Branch-entered places_of book s c b mid after → state_of places_of after ≡ working (branch_from book c (all_dropped (places_of t₀))) (in_branch s b ∷ stack_splits k)
+      state_is : (c : Comparison) (b : Branch) → BranchEntered places_of book s c b mid after → state_of places_of after ≡ working (branch_from book c (all_dropped (places_of t₀))) (in_branch s b ∷ stack_splits k)
       state_is c b e =
           ap (λ x. cond x closed (working (places_of after.theory) (stack_splits after.stack))) (e.closed ∙ working')
           ∙ ap (λ ps. working ps (stack_splits after.stack)) (e.state ∙ ap (branch_from book c) from)
           ∙ ap (working (branch_from book c (all_dropped (places_of t₀)))) (e.stack ∙ ap (λ x. in_branch s b ∷ stack_splits x) stack)
 
-      at : (b : Branch) → by-branch b (Branch-entered places_of book s (Comparison.Equal s.left s.right) Branch.Second mid after) (Branch-entered places_of book s (Comparison.Greater s.left s.right) Branch.Third mid after) ⊥ → state_of places_of after ≡ by-branch b (working (branch_from book (Comparison.Equal s.left s.right) (all_dropped (places_of t₀))) (in_branch s Branch.Second ∷ stack_splits k)) (working (branch_from book (Comparison.Greater s.left s.right) (all_dropped (places_of t₀))) (in_branch s Branch.Third ∷ stack_splits k)) (next book (stack_splits k) (all_dropped (all_dropped (places_of t₀))))
+      at : (b : Branch) → by_branch b (BranchEntered places_of book s (Comparison.Equal s.left s.right) Branch.Second mid after) (BranchEntered places_of book s (Comparison.Greater s.left s.right) Branch.Third mid after) ⊥ → state_of places_of after ≡ by_branch b (working (branch_from book (Comparison.Equal s.left s.right) (all_dropped (places_of t₀))) (in_branch s Branch.Second ∷ stack_splits k)) (working (branch_from book (Comparison.Greater s.left s.right) (all_dropped (places_of t₀))) (in_branch s Branch.Third ∷ stack_splits k)) (next book (stack_splits k) (all_dropped (all_dropped (places_of t₀))))
       at Branch.First e = state_is (Comparison.Equal s.left s.right) Branch.Second e
       at Branch.Second e = state_is (Comparison.Greater s.left s.right) Branch.Third e
       at Branch.Third e = absurd e
@@ -94,5 +94,5 @@ module _ {T : Type 0} (places_of : T → Places) (book : Book) (s : OpenSplit) (
   moved_out final third h =
       h
       ∙ ap (λ ps. next book (stack_splits k) (all_dropped ps)) left_branch.dropped
-      ∙ ap (λ b. by-branch b (working (branch_from book (Comparison.Equal s.left s.right) (all_dropped (places_of t₀))) (in_branch s Branch.Second ∷ stack_splits k)) (working (branch_from book (Comparison.Greater s.left s.right) (all_dropped (places_of t₀))) (in_branch s Branch.Third ∷ stack_splits k)) (next book (stack_splits k) (all_dropped (all_dropped (places_of t₀))))) (sym third)
+      ∙ ap (λ b. by_branch b (working (branch_from book (Comparison.Equal s.left s.right) (all_dropped (places_of t₀))) (in_branch s Branch.Second ∷ stack_splits k)) (working (branch_from book (Comparison.Greater s.left s.right) (all_dropped (places_of t₀))) (in_branch s Branch.Third ∷ stack_splits k)) (next book (stack_splits k) (all_dropped (all_dropped (places_of t₀))))) (sym third)
       ∙ ap (λ ss. next book ss (all_dropped (places_of t₀))) (sym popped)

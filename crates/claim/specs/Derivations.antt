@@ -93,10 +93,10 @@ abbrev pub Left : Book → State → List Step → Type 0
 Left book closed w = w ≡ []
 Left book (working ps ss) w = Finishes book ps ss w
 
-abbrev pub by-branch {ℓ} : {X : Type ℓ} → Branch → X → X → X → X
-by-branch Branch.First x y z = x
-by-branch Branch.Second x y z = y
-by-branch Branch.Third x y z = z
+abbrev pub by_branch {ℓ} : {X : Type ℓ} → Branch → X → X → X → X
+by_branch Branch.First x y z = x
+by_branch Branch.Second x y z = y
+by_branch Branch.Third x y z = z
 
 abbrev pub in_branch : OpenSplit → Branch → OpenSplit
 in_branch s b = record { left = s.left; right = s.right; branch = b }
@@ -106,7 +106,7 @@ in_branch s b = record { left = s.left; right = s.right; branch = b }
 abbrev pub next : Book → List OpenSplit → Places → State
 next book [] ps = closed
 next book (s ∷ ss) ps =
-    by-branch s.branch
+    by_branch s.branch
     (working (branch_from book (Comparison.Equal s.left s.right) ps) (in_branch s Branch.Second ∷ ss))
     (working (branch_from book (Comparison.Greater s.left s.right) ps) (in_branch s Branch.Third ∷ ss))
     (next book ss (all_dropped ps))

@@ -7,7 +7,7 @@ use Rattle.theory.specs.Rules.{Book, Full, telling_wanted}
 use Rattle.claim.specs.Calls.{Answer, StepCall, because, fault_of, Levelled}
 use Rattle.claim.specs.Counted.{place_of, StepCounted, Counted}
 use Rattle.theory.specs.Places.{Places}
-use Rattle.claim.specs.Derivations.{State, closed, working, RoomTold, told, branch_from, by-branch, in_branch}
+use Rattle.claim.specs.Derivations.{State, closed, working, RoomTold, told, branch_from, by_branch, in_branch}
 use Rattle.claim.specs.Histories.{LiteralsSent, StepsSent, splits_in}
 use Rattle.claim.specs.Stacks.{stack_splits}
 use Rattle.claim.specs.declared.opening.Claim.{Claim}
@@ -22,7 +22,7 @@ abbrev pub state_of : {T : Type 0} → (T → Places) → Derivation T → State
 state_of places d = cond d.closed closed (working (places d.theory) (stack_splits d.stack))
 
 -- the branch after the one that a split was in was begun, or there is none
-pub record Branch-entered {T : Type 0} (places : T → Places) (book : Book) (s : OpenSplit) (k : Comparison) (b : Branch) (before after : Derivation T) : Type 0 where
+pub record BranchEntered {T : Type 0} (places : T → Places) (book : Book) (s : OpenSplit) (k : Comparison) (b : Branch) (before after : Derivation T) : Type 0 where
   pub state : places after.theory ≡ branch_from book k (places before.theory)
   pub stack : stack_splits after.stack ≡ in_branch s b ∷ stack_splits before.stack
   pub closed : after.closed ≡ before.closed
@@ -30,9 +30,9 @@ pub record Branch-entered {T : Type 0} (places : T → Places) (book : Book) (s 
 
 abbrev pub BranchBegun : {T : Type 0} → (T → Places) → Book → OpenSplit → Bool → Derivation T → Derivation T → Type 0
 BranchBegun places book s true before after =
-    by-branch s.branch
-    (Branch-entered places book s (Comparison.Equal s.left s.right) Branch.Second before after)
-    (Branch-entered places book s (Comparison.Greater s.left s.right) Branch.Third before after)
+    by_branch s.branch
+    (BranchEntered places book s (Comparison.Equal s.left s.right) Branch.Second before after)
+    (BranchEntered places book s (Comparison.Greater s.left s.right) Branch.Third before after)
     ⊥
 BranchBegun places book s false before after = (s.branch ≡ Branch.Third) × (after ≡ before)
 

@@ -1,6 +1,6 @@
 -- How a derivation ends.
 use Rattle.std.specs.Prelude.{◌≡◌, ℕ, ◌+◌, List, [], ◌∷◌}
-use Rattle.claim.specs.Derivations.{State, closed, working, by-branch}
+use Rattle.claim.specs.Derivations.{State, closed, working, by_branch}
 use Rattle.claim.specs.declared.counts.Counts.{Counts}
 use Rattle.claim.specs.declared.seal.Ending.{Ending}
 use Rattle.claim.specs.declared.seal.Seal.{Seal}
@@ -14,7 +14,7 @@ pub record SealedWith (c : Counts) (s : Seal) : Type 0 where
 -- the branches that are not begun, of all open splits
 abbrev pub unbegun : List OpenSplit → ℕ
 unbegun [] = 0
-unbegun (s ∷ ss) = by-branch s.branch 2 1 0 + unbegun ss
+unbegun (s ∷ ss) = by_branch s.branch 2 1 0 + unbegun ss
 
 -- a seal exactly where the derivation is closed, else the branch worked on and those not begun
 abbrev pub Ended : State → Counts → Ending → Type 0

@@ -3,7 +3,7 @@ use Rattle.std.proofs.Common.{◌≡◌, ℕ, suc, ◌+◌, ◌-◌, ◌*◌, �
 use mir.Facts.{of_z-to_z}
 use mir.Val.{sel}
 use Rattle.std.proofs.lemmas.List.{drop_more, drop-drop, take-append-drop, take_all, drop_all, length-drop}
-use Rattle.reading.specs.Lists.{record_bytes as reading-bytes}
+use Rattle.reading.specs.Lists.{record_bytes as reading_bytes}
 use Rattle.reading.specs.declared.count.SentReading.{SentReading}
 use Rattle.claimfile.specs.Entries.{Fits32, unsigned, number_bytes}
 
@@ -59,7 +59,7 @@ term_parts xs t u long ht hu =
     ap (λ w. w ++ u) ht ∙ next_part xs u 0 4 second
 
 -- a reading's body
-pub reading_parts : (xs : List ℕ) (s : SentReading) → length xs ≡ 3 → s.name ≡ get_or xs 0 0 → s.count ≡ get_or xs 1 0 + get_or xs 2 0 * 256 → get_or xs 1 0 < 256 → reading-bytes s ≡ 75 ∷ xs
+pub reading_parts : (xs : List ℕ) (s : SentReading) → length xs ≡ 3 → s.name ≡ get_or xs 0 0 → s.count ≡ get_or xs 1 0 + get_or xs 2 0 * 256 → get_or xs 1 0 < 256 → reading_bytes s ≡ 75 ∷ xs
 reading_parts [] s long named counted small = absurd (omega arith)
 reading_parts (a ∷ []) s long named counted small = absurd (omega arith)
 reading_parts (a ∷ b ∷ []) s long named counted small = absurd (omega arith)

@@ -6,7 +6,7 @@ use Rattle.facts.specs.declared.literal.Literal.{Literal}
 use Rattle.facts.specs.declared.literal.SentPair.{SentPair}
 use Rattle.facts.specs.declared.literal.SentRow.{SentRow}
 use Rattle.facts.specs.declared.literal.SentTerm.{SentTerm}
-use Rattle.reading.specs.Lists.{record_bytes as reading-bytes}
+use Rattle.reading.specs.Lists.{record_bytes as reading_bytes}
 use Rattle.reading.specs.declared.count.SentReading.{SentReading}
 use Rattle.claim.specs.declared.sent.SentStep.{SentStep}
 
@@ -97,4 +97,4 @@ pub data Entry : Type 0 where
 
 abbrev pub entry_bytes : Entry → List ℕ
 entry_bytes (Entry.literal l) = literal_bytes l
-entry_bytes (Entry.reading s) = reading-bytes s
+entry_bytes (Entry.reading s) = reading_bytes s

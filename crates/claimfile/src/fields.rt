@@ -2,7 +2,7 @@
 ghost use Rattle.std.specs.Prelude.{◌≡◌, ◌+◌, ◌≤◌, ◌∷◌, length, take, drop, Some, ◌≢◌};
 ghost use Rattle.claimfile.specs.Entries.{Fits32, AllPairsFit, LiteralFits, StepFits, term_bytes, number_bytes, pair_bytes, row_bytes, literal_bytes, step_bytes};
 ghost use Rattle.claimfile.specs.Kinds.{shape_of, front, later};
-ghost use Rattle.reading.specs.Lists.{record_bytes as reading-bytes};
+ghost use Rattle.reading.specs.Lists.{record_bytes as reading_bytes};
 
 use claim::SentStep;
 use facts::{Literal, Relation, SentPair, SentRow, SentTerm};
@@ -77,7 +77,7 @@ pub(crate) fn literal_of(kind: char, body: &[u8]) -> Literal
 // The reading of a record.
 pub(crate) fn reading_of(body: &[u8]) -> SentReading
     requires { length body.now ≡ 3 }
-    ensures { reading-bytes result ≡ 75 ∷ body.now }
+    ensures { reading_bytes result ≡ 75 ∷ body.now }
 {
     SentReading {
         name: body[0],

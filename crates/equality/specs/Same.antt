@@ -6,33 +6,33 @@ use Rattle.facts.specs.Fields.{sent}
 use Rattle.facts.specs.declared.literal.SentTerm.{SentTerm}
 use Rattle.facts.specs.declared.name.Name.{Name}
 use Rattle.facts.specs.declared.term.Term.{Term}
-use Rattle.facts.proofs.Indices.{same_name as name-from-index, same_symbol as symbol-from-index}
+use Rattle.facts.proofs.Indices.{same_name as name_from_index, same_symbol as symbol_from_index}
 use Rattle.equality.specs.Terms.{same_name, same_bytes, same_term}
 
 pub name_decided : (n m : Name) → Decides (same_name n m) (n ≡ m)
 name_decided n m =
-    Decides-like _ (name-from-index n m) (ap (λ (k : Name). k.index)) (Decides-eqb n.index m.index)
+    Decides-like _ (name_from_index n m) (ap (λ (k : Name). k.index)) (Decides-eqb n.index m.index)
 
 -- the tags, the letters, the first and the second names
 abbrev SameBytes : SentTerm → SentTerm → Type 0
 SameBytes s t = (((s.tag ≡ t.tag) × (s.letter ≡ t.letter)) × (s.first ≡ t.first)) × (s.second ≡ t.second)
 
 from_bytes : (t u : Term) → SameBytes (sent t) (sent u) → t ≡ u
-from_bytes (Term.Bare n) (Term.Bare m) (((tag, letter), first), second) = ap Term.Bare (name-from-index n m first)
+from_bytes (Term.Bare n) (Term.Bare m) (((tag, letter), first), second) = ap Term.Bare (name_from_index n m first)
 from_bytes (Term.Bare n) (Term.Unary s m) (((tag, letter), first), second) = absurd (omega arith)
 from_bytes (Term.Bare n) (Term.Binary s m k) (((tag, letter), first), second) = absurd (omega arith)
 from_bytes (Term.Unary s n) (Term.Bare m) (((tag, letter), first), second) = absurd (omega arith)
 from_bytes (Term.Unary s n) (Term.Unary r m) (((tag, letter), first), second) =
-    let a : s ≡ r = symbol-from-index s r letter in
-    let b : n ≡ m = name-from-index n m first in
+    let a : s ≡ r = symbol_from_index s r letter in
+    let b : n ≡ m = name_from_index n m first in
     cc
 from_bytes (Term.Unary s n) (Term.Binary r m k) (((tag, letter), first), second) = absurd (omega arith)
 from_bytes (Term.Binary s n k) (Term.Bare m) (((tag, letter), first), second) = absurd (omega arith)
 from_bytes (Term.Binary s n k) (Term.Unary r m) (((tag, letter), first), second) = absurd (omega arith)
 from_bytes (Term.Binary s n k) (Term.Binary r m j) (((tag, letter), first), second) =
-    let a : s ≡ r = symbol-from-index s r letter in
-    let b : n ≡ m = name-from-index n m first in
-    let c : k ≡ j = name-from-index k j second in
+    let a : s ≡ r = symbol_from_index s r letter in
+    let b : n ≡ m = name_from_index n m first in
+    let c : k ≡ j = name_from_index k j second in
     cc
 
 to_bytes : (t u : Term) → t ≡ u → SameBytes (sent t) (sent u)

@@ -1,6 +1,6 @@
 // What each step comes to, from the current fact and the fact that it takes.
 ghost use Rattle.std.specs.Prelude.{◌≡◌};
-ghost use Rattle.equality.specs.Equality.{refused as refused-by, fails, current_found, fact_found, taken, oriented as oriented-by, by_equality, by_negation, transitivity as extended, congruence as rewritten, clash as opposed, propagation};
+ghost use Rattle.equality.specs.Equality.{refused as refused_by, fails, current_found, fact_found, taken, oriented as oriented_by, by_equality, by_negation, transitivity as extended, congruence as rewritten, clash as opposed, propagation};
 
 use crate::terms::{argument, replaced, same_name, same_term};
 use facts::{Cause, Fact, Refusal};
@@ -11,7 +11,7 @@ pub(crate) const NUMBER: u8 = 1;
 
 // The detail is how many facts there are where one is missing, else 0.
 pub(crate) fn refused(refusal: Refusal, detail: u8) -> Outcome
-    ensures { result ≡ refused-by refusal detail }
+    ensures { result ≡ refused_by refusal detail }
 {
     Outcome::Refused(Cause {
         refusal,
@@ -66,7 +66,7 @@ pub(crate) fn premises(current: &Option<Fact>, facts: &[Fact], number: u8) -> Re
 
 // The fact, with its sides exchanged if it is an equality and turned.
 fn oriented(fact: Fact, turned: bool) -> Fact
-    ensures { result ≡ oriented-by turned fact }
+    ensures { result ≡ oriented_by turned fact }
 {
     match fact {
         Fact::Equal(a, b) if turned => Fact::Equal(b, a),
@@ -76,7 +76,7 @@ fn oriented(fact: Fact, turned: bool) -> Fact
 
 // T: a current l = a becomes l = b by a = b.
 pub(crate) fn transitivity(by: &Taken, turned: bool) -> Outcome
-    ensures { result ≡ by_equality (oriented-by turned by.now.fact) (λ a b. extended a b by.now.current) }
+    ensures { result ≡ by_equality (oriented_by turned by.now.fact) (λ a b. extended a b by.now.current) }
 {
     let Fact::Equal(a, b) = oriented(by.fact, turned) else {
         return refused(Refusal::WrongRelation, 0);
@@ -92,7 +92,7 @@ pub(crate) fn transitivity(by: &Taken, turned: bool) -> Outcome
 
 // C: an argument a of the current right side becomes b by a = b of two names.
 pub(crate) fn congruence(by: &Taken, position: Position, turned: bool) -> Outcome
-    ensures { result ≡ by_equality (oriented-by turned by.now.fact) (λ a b. rewritten position a b by.now.current) }
+    ensures { result ≡ by_equality (oriented_by turned by.now.fact) (λ a b. rewritten position a b by.now.current) }
 {
     let Fact::Equal(from, to) = oriented(by.fact, turned) else {
         return refused(Refusal::WrongRelation, 0);

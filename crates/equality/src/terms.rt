@@ -1,5 +1,5 @@
 ghost use Rattle.std.specs.Prelude.{◌≡◌, Decides};
-ghost use Rattle.equality.specs.Terms.{same_name, same_term, argument as argument-of, replaced as replaced-in};
+ghost use Rattle.equality.specs.Terms.{same_name, same_term, argument as argument_of, replaced as replaced_in};
 
 use facts::{Name, Term};
 use theory::Position;
@@ -22,7 +22,7 @@ pub(crate) fn same_term(t: Term, u: Term) -> bool
 
 // The argument at a position, if the term has one there.
 pub(crate) fn argument(term: Term, position: Position) -> Option<Name>
-    ensures { result ≡ argument-of position term }
+    ensures { result ≡ argument_of position term }
 {
     match term {
         Term::Bare(_) => None,
@@ -39,7 +39,7 @@ pub(crate) fn argument(term: Term, position: Position) -> Option<Name>
 
 // The term with a name in place of the argument at a position.
 pub(crate) fn replaced(term: Term, position: Position, name: Name) -> Term
-    ensures { result ≡ replaced-in position name term }
+    ensures { result ≡ replaced_in position name term }
 {
     match term {
         Term::Bare(_) => term,

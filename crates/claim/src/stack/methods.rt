@@ -1,6 +1,6 @@
 ghost use Rattle.std.specs.Prelude.{◌≡◌, ◌<◌, ◌≤◌, [], ◌∷◌, length, MatchBool, MatchOption};
 ghost use Rattle.claim.specs.Stacks.{stack_splits};
-ghost use Rattle.claim.specs.Derivations.{by-branch};
+ghost use Rattle.claim.specs.Derivations.{by_branch};
 ghost use Rattle.claim.specs.Endings.{unbegun};
 ghost use Rattle.claim.specs.Popped.{Popped};
 
@@ -76,7 +76,7 @@ impl Stack {
 
 // How many branches of a split come after this one.
 fn waiting(branch: Branch) -> u32
-    ensures value { result ≡ by-branch branch 2 1 0 }
+    ensures value { result ≡ by_branch branch 2 1 0 }
     ensures bound { result ≤ 2 }
 {
     match branch {
