@@ -2,7 +2,7 @@
 use Rattle.facts.specs.Valuations.{Valuation}
 use Rattle.theory.specs.Rules.{Book}
 use Rattle.std.proofs.Common.{ℕ, List}
-use Rattle.claimfile.specs.Judging.{EstablishedMeans, Excluded}
+use Rattle.claimfile.specs.Judging.{EstablishedMeans}
 use Rattle.claimfile.specs.Lines.{Reported}
 use Rattle.claimfile.specs.declared.verdict.Verdict.{Verdict}
 

@@ -1,5 +1,5 @@
 -- Calls on a claim that has taken all that was sent.
-use Rattle.std.proofs.Common.{◌≡◌, ℕ, ◌+◌, List, [], ◌∷◌, ◌++◌, map, length, Ok, Err, sym, refl, ap, ◌∙◌, subst, append_assoc, arith}
+use Rattle.std.proofs.Common.{◌≡◌, List, [], ◌∷◌, ◌++◌, map, length, Ok, Err, sym, subst, append_assoc, arith}
 use Rattle.std.proofs.lemmas.List.{map_push, length_push}
 use Rattle.facts.specs.declared.fault.CallFault.{CallFault}
 use Rattle.facts.specs.declared.literal.Literal.{Literal}
@@ -7,7 +7,6 @@ use Rattle.theory.specs.Places.{Places}
 use Rattle.theory.specs.Rules.{Book}
 use Rattle.reading.specs.Bounds.{bound_literal, bounds_list}
 use Rattle.reading.specs.Converter.{ReadingChecked}
-use Rattle.reading.specs.declared.bound.Bound.{Bound}
 use Rattle.reading.specs.declared.bound.Bounds.{Bounds}
 use Rattle.reading.specs.declared.count.SentReading.{SentReading}
 use Rattle.claim.specs.Calls.{Answer, LiteralCall}

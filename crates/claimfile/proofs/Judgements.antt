@@ -1,10 +1,9 @@
 -- How a file's check comes to its verdict.
-use Rattle.std.proofs.Common.{◌≡◌, ℕ, ◌+◌, ◌<◌, ◌≤◌, List, [], ◌∷◌, ◌++◌, length, take, drop, Some, None, Ok, Err, sym, refl, ap, ◌∙◌, subst, append_assoc, append-nil, arith}
+use Rattle.std.proofs.Common.{◌≡◌, ℕ, ◌≤◌, List, [], ◌++◌, length, take, drop, Err, sym, refl, ap, ◌∙◌, subst, append_assoc, append-nil, arith}
 use Rattle.std.specs.List.{flat_map}
 use Rattle.std.proofs.lemmas.List.{take_all, take-append-drop, length-take-le}
 use Rattle.facts.specs.Valuations.{Valuation}
 use Rattle.facts.specs.declared.fault.RecordFault.{RecordFault}
-use Rattle.facts.specs.declared.literal.Literal.{Literal}
 use Rattle.theory.specs.Places.{Places}
 use Rattle.theory.specs.Rules.{Book, AllSound}
 use Rattle.claim.proofs.Promises.{promise}
@@ -14,9 +13,8 @@ use Rattle.claim.specs.Histories.{AllLiteralsTrue, splits_in}
 use Rattle.claim.specs.declared.derivation.Derivation.{Derivation}
 use Rattle.claim.specs.declared.opening.Claim.{Claim}
 use Rattle.claim.specs.declared.sent.SentStep.{SentStep}
-use Rattle.claim.specs.declared.step.Step.{Step}
-use Rattle.claimfile.specs.Entries.{Entry, entry_bytes, step_bytes, begin_bytes}
-use Rattle.claimfile.specs.Judging.{AllAssumed, Concluded, EstablishedMeans, Excluded, Judged, begun_bytes, front_bytes, longest_file, refused_at, unfinished}
+use Rattle.claimfile.specs.Entries.{step_bytes, begin_bytes}
+use Rattle.claimfile.specs.Judging.{AllAssumed, Concluded, EstablishedMeans, Judged, begun_bytes, front_bytes, longest_file, refused_at, unfinished}
 use Rattle.claimfile.specs.Progress.{Fronted, Opened, Running, SteppedThrough}
 use Rattle.claimfile.specs.Sending.{Stated, all_taken}
 use Rattle.claimfile.specs.declared.verdict.Verdict.{Verdict}

@@ -1,13 +1,12 @@
 -- True readings make their literals true.
-use Rattle.std.proofs.Common.{◌≡◌, ℕ, List, [], ◌∷◌, ◌++◌, map, ℤ, pos, ◌*ℤ◌, ◌≤ℤ◌, Ok, sym, refl, ap, ◌∙◌, subst, arith}
+use Rattle.std.proofs.Common.{◌≡◌, ℕ, List, [], ◌∷◌, ◌++◌, map, pos, ◌*ℤ◌, ◌≤ℤ◌, sym, subst, arith}
 use lib.IntN.{zero-*ℤ}
 use Rattle.std.proofs.lemmas.Int.{ints, clamps}
 use Rattle.facts.proofs.Integers.{times_mono}
-use Rattle.facts.specs.Literals.{LiteralTrue}
 use Rattle.facts.specs.Valuations.{Valuation}
 use Rattle.facts.specs.declared.literal.Literal.{Literal}
 use Rattle.reading.specs.Bounds.{bound_literal, bounds_list}
-use Rattle.reading.specs.Converter.{AllTrue, Stores, Taken}
+use Rattle.reading.specs.Converter.{AllTrue, Stores}
 use Rattle.reading.specs.declared.bound.Bound.{Bound}
 use Rattle.claim.specs.Histories.{AllLiteralsTrue}
 use Rattle.claimfile.specs.Entries.{Entry}

@@ -4,7 +4,6 @@ use Rattle.std.specs.List.{flat_map}
 use Rattle.facts.specs.Literals.{LiteralTrue}
 use Rattle.facts.specs.Valuations.{Valuation}
 use Rattle.facts.specs.declared.fault.CallFault.{CallFault}
-use Rattle.facts.specs.declared.fault.RecordFault.{RecordFault}
 use Rattle.facts.specs.declared.literal.Literal.{Literal}
 use Rattle.facts.specs.declared.refusal.Refusal.{Refusal}
 use Rattle.theory.specs.Places.{Places}

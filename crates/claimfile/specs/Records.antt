@@ -1,5 +1,5 @@
 -- Records as they are read: what stands at the front of what is left of a file.
-use Rattle.std.specs.Prelude.{◌≡◌, ℕ, ◌+◌, ◌<◌, ◌≤◌, ◌⊎◌, List, [], ◌∷◌, ◌++◌, length, drop, Some, None, Ok, Err, Option, Result, ◌≢◌}
+use Rattle.std.specs.Prelude.{◌≡◌, ℕ, ◌<◌, ◌≤◌, List, [], ◌∷◌, ◌++◌, length, drop, Some, None, Ok, Err, Option, Result, ◌≢◌}
 use Rattle.facts.specs.declared.refusal.Refusal.{Refusal}
 use Rattle.claimfile.specs.Kinds.{shape_of, front, later}
 use Rattle.claimfile.specs.declared.record.Record.{Record}

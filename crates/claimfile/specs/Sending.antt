@@ -1,5 +1,5 @@
 -- Records sent to a claim: the literals that each states, and which call refuses one.
-use Rattle.std.specs.Prelude.{◌≡◌, ℕ, ◌+◌, List, [], ◌∷◌, ◌++◌, map, Some, None, Ok, Err, Option, Result}
+use Rattle.std.specs.Prelude.{◌≡◌, ℕ, ◌+◌, List, [], ◌∷◌, ◌++◌, map, Ok, Err, Option}
 use Rattle.facts.specs.declared.fault.CallFault.{CallFault}
 use Rattle.facts.specs.declared.fault.Cause.{Cause}
 use Rattle.facts.specs.declared.literal.Literal.{Literal}

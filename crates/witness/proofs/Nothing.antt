@@ -1,5 +1,5 @@
 -- Without rules no literal is taken, and no run is sealed.
-use Rattle.std.proofs.Common.{◌≡◌, ℕ, Bool, true, false, List, [], ◌∷◌, ◌++◌, pos, Ok, Err, sym, refl, subst, arith}
+use Rattle.std.proofs.Common.{◌≡◌, ℕ, Bool, true, false, List, [], pos, sym, refl, subst, arith}
 use Rattle.facts.specs.Valuations.{Valuation}
 use Rattle.witness.specs.Excluded.{Excluded}
 use Rattle.facts.specs.declared.literal.Literal.{Literal}

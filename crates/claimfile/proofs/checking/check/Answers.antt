@@ -1,4 +1,4 @@
-use Rattle.std.proofs.Common.{◌≡◌, ◌≤◌, length, Ok, Err, sym, refl, ap, ◌∙◌, subst, arith}
+use Rattle.std.proofs.Common.{◌≤◌, length, Ok, sym, ap, subst}
 use Rattle.claimfile.specs.Judging.{EstablishedMeans, Judged, longest_file}
 use Rattle.claimfile.specs.Progress.{Fronted, Within}
 use Rattle.claimfile.specs.Sending.{all_taken}

@@ -1,12 +1,10 @@
-use Rattle.std.proofs.Common.{◌≡◌, List, [], ◌∷◌, ◌++◌, map, length, Ok, Err, sym, refl, ap, ◌∙◌, subst}
+use Rattle.std.proofs.Common.{◌≡◌, [], ◌∷◌, ◌++◌, map, length, Ok, Err, sym, ap, ◌∙◌, subst}
 use Rattle.std.proofs.lemmas.Result.{err_from_is_err_and}
-use Rattle.facts.specs.declared.literal.Literal.{Literal}
 use Rattle.reading.specs.Bounds.{bound_literal, bounds_list}
-use Rattle.reading.specs.declared.bound.Bounds.{Bounds}
 use Rattle.claim.specs.Calls.{fault_of}
 use Rattle.claim.specs.Counted.{place_of}
 use Rattle.claimfile.specs.Entries.{Entry}
-use Rattle.claimfile.specs.Sending.{EntryRefused, States}
+use Rattle.claimfile.specs.Sending.{EntryRefused}
 use Rattle.claimfile.specs.Progress.{EntrySent}
 use Rattle.claimfile.proofs.Calls.{place_is, one_sent, states_one, states_bounds, first_refused, second_sent}
 use Rattle.claimfile.proofs.checking.send_reading.Goals as goal

@@ -1,6 +1,6 @@
-use Rattle.std.proofs.Common.{◌≡◌, length, Ok, Err, sym, refl, ap, ◌∙◌, subst}
+use Rattle.std.proofs.Common.{◌≡◌, length, Ok, Err, sym, ap, ◌∙◌, subst}
 use Rattle.std.proofs.lemmas.Result.{err_from_is_err_and}
-use Rattle.claimfile.specs.Progress.{Ahead, Fronted, Opened, Turned, Within}
+use Rattle.claimfile.specs.Progress.{Ahead, Opened, Turned, Within}
 use Rattle.claimfile.proofs.Advances.{fronted_err}
 use Rattle.claimfile.proofs.checking.take_literals.Goals as goal
 

@@ -1,4 +1,4 @@
-use Rattle.std.proofs.Common.{◌≡◌, ◌∷◌, get_or, sym, ap, ◌∙◌, subst, arith, to_z-of_z, w32, SFits, rules}
+use Rattle.std.proofs.Common.{◌∷◌, get_or, sym, ap, ◌∙◌, subst, arith, to_z-of_z, w32, SFits, rules}
 use Rattle.claimfile.specs.Entries.{Fits32, number_bytes}
 use Rattle.claimfile.proofs.Bytes.{one_at}
 use Rattle.claimfile.proofs.fields.pair_at.Goals as goal

@@ -1,4 +1,4 @@
-use Rattle.std.proofs.Common.{refl, rules}
+use Rattle.std.proofs.Common.{refl}
 use Rattle.claimfile.proofs.Bytes.{reading_parts}
 use Rattle.claimfile.proofs.fields.reading_of.Goals as goal
 

@@ -1,4 +1,4 @@
-use Rattle.std.proofs.Common.{◌≡◌, [], ◌∷◌, ◌++◌, sym, ap, ◌∙◌, subst, to_z-of_z, w32, SFits, rules}
+use Rattle.std.proofs.Common.{[], ◌∷◌, ◌++◌, sym, ap, ◌∙◌, subst, to_z-of_z, w32, SFits, rules}
 use Rattle.std.specs.List.{flat_map}
 use Rattle.claimfile.specs.Entries.{Fits32, number_bytes, pair_bytes}
 use Rattle.claimfile.proofs.Bytes.{row_parts}

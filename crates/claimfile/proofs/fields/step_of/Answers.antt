@@ -1,4 +1,4 @@
-use Rattle.std.proofs.Common.{◌≡◌, ◌<◌, [], ◌∷◌, length, get_or, sym, refl, ap, ◌∙◌, subst, arith, to_z-of_z, w32, SFits, rules}
+use Rattle.std.proofs.Common.{◌≡◌, length, sym, ap, ◌∙◌, subst, arith, to_z-of_z, w32, SFits, rules}
 use Rattle.claimfile.specs.Entries.{Fits32, number_bytes}
 use Rattle.claimfile.proofs.Bytes.{then_at, last_at, two_at, last_four, of_kind}
 use Rattle.claimfile.proofs.fields.step_of.Goals as goal

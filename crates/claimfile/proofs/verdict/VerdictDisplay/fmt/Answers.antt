@@ -1,4 +1,4 @@
-use Rattle.std.proofs.Common.{◌≡◌, sym, refl, ap, ◌∙◌, append_assoc}
+use Rattle.std.proofs.Common.{sym, ap, append_assoc}
 use Rattle.std.proofs.Output.{has_written_of_eq}
 use Rattle.claimfile.specs.Lines.{verdict_line}
 use Rattle.claimfile.specs.declared.verdict.Verdict.{Verdict}
