@@ -6,7 +6,7 @@ ghost use Rattle.theory.specs.Places.{Places, dropped};
 ghost use Rattle.theory.specs.Rules.{Answered, DroppingAnswer};
 ghost use Rattle.claim.specs.Histories.{listed};
 ghost use Rattle.facts.specs.declared.fact.Comparison.{Comparison};
-ghost use Rattle.claim.specs.Calls.{Answer, Levelled, Ready, Fit, fault_of, because};
+ghost use Rattle.claim.specs.Calls.{Answer, Levelled, Fit, fault_of, because};
 ghost use Rattle.claim.specs.Counted.{place_of};
 ghost use Rattle.claim.specs.Derivations.{RoomTold, all_dropped, branch_from, next, working, open_splits};
 ghost use Rattle.claim.specs.Sent.{StepChecked};

@@ -1,5 +1,5 @@
 // A whole run of a claim: every literal, the begin, every step and the end, with every answer.
-ghost use Rattle.std.specs.Prelude.{◌≡◌, List, [], IfOk};
+ghost use Rattle.std.specs.Prelude.{List, [], IfOk};
 ghost use Rattle.theory.specs.Places.{Places};
 ghost use Rattle.claim.specs.Derived.{Claimed, Reached};
 ghost use Rattle.claim.specs.Replays.{Replayed};

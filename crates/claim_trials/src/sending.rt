@@ -2,7 +2,7 @@
 use claim::{Claim, Derivation, SentStep};
 use facts::{CallFault, Literal, Relation, SentPair, SentRow};
 use linear::Whole;
-use theory::{Logic, Single};
+use theory::Single;
 
 pub(crate) type Rows = Single<Whole>;
 

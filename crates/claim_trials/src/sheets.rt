@@ -1,7 +1,6 @@
 use crate::sending::*;
 use claim::{Ending, Seal, Sheet};
 use std::test::Fail;
-use theory::Logic;
 
 fn sealed() -> Result<Seal, Fail> {
     let mut steps = begun();

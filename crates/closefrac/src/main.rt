@@ -13,7 +13,7 @@ use equality::Equality;
 use linear::Fractions;
 use std::alloc::{AllocError, Global};
 use std::io::Read;
-use theory::{Logic, Pair, Single};
+use theory::{Pair, Single};
 
 // The line of a file. Established means that no valuation makes all its literals
 // true.

@@ -1,5 +1,5 @@
 // A literal as a caller sends it: its fields are raw, and may be out of range.
-ghost use Rattle.std.specs.Prelude.{◌≡◌, ℕ, ◌+◌, ◌*◌, ◌≤◌, length, pos, ◌+ℤ◌, Some, None, Decides, MatchResult, slice_index_or, slice_set};
+ghost use Rattle.std.specs.Prelude.{◌≡◌, ◌+◌, ◌*◌, ◌≤◌, length, pos, ◌+ℤ◌, Some, None, Decides, MatchResult, slice_index_or, slice_set};
 ghost use Rattle.facts.specs.Fields.{TermChecked, RowChecked, SidesChecked, first_bad, term_fields, sent};
 ghost use Rattle.facts.specs.Literals.{LiteralChecked};
 ghost use Rattle.facts.specs.Sizes.{Sized, sent_limit};

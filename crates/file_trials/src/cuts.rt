@@ -2,7 +2,7 @@ use claimfile::{Verdict, check as check_file};
 use equality::Equality;
 use linear::Whole;
 use std::test::Fail;
-use theory::{Logic, Pair, Single};
+use theory::{Pair, Single};
 
 // Two readings, an overload and the steps against it.
 const FILE: &[u8] =

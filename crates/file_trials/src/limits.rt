@@ -4,7 +4,7 @@ use equality::Equality;
 use facts::{CallFault, Literal, SentTerm};
 use linear::Whole;
 use std::test::Fail;
-use theory::{Logic, Pair, Single};
+use theory::{Pair, Single};
 
 // A refusal's number, and the offset, place, theory and detail beside it; all 0 for another verdict.
 fn refused(verdict: &Verdict) -> (u8, usize, u32, u8, u8) {

@@ -2,7 +2,6 @@
 // nothing, is told without effect, and has no rules.
 #![tactic(auto)]
 
-ghost use Rattle.std.specs.Prelude.{◌≡◌};
 ghost use Rattle.nowhere.specs.Nothing.{no_rules, no_places, admits_all};
 ghost use Rattle.std.proofs.Common.{rules};
 

@@ -1,7 +1,6 @@
 // A list of reading records, and the text that is printed of it.
 ghost use Rattle.std.specs.Prelude.{◌≡◌, ◌<◌, ◌++◌, length, IfOk, string_bytes, OnOk};
-ghost use Rattle.reading.specs.Converter.{ReadingChecked};
-ghost use Rattle.reading.specs.Lists.{Refused, Report, RecordRead, record_bytes, reading_line, total_line, fault_line, fault_at, because};
+ghost use Rattle.reading.specs.Lists.{Report, RecordRead, reading_line, total_line, fault_line, fault_at, because};
 
 use crate::bound::Bounds;
 use crate::count::SentReading;

@@ -1,4 +1,4 @@
-ghost use Rattle.std.specs.Prelude.{◌≡◌, ℕ, Bool, is_some};
+ghost use Rattle.std.specs.Prelude.{◌≡◌, ℕ, is_some};
 ghost use Rattle.facts.specs.Valuations.{Valuation};
 ghost use Rattle.std.specs.Option.{option_map};
 ghost use Rattle.theory.specs.Places.{Places, empty, opened, dropped};

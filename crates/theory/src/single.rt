@@ -1,6 +1,6 @@
-ghost use Rattle.std.specs.Prelude.{◌≡◌, ◌<◌, ◌≤◌, [], length, None};
+ghost use Rattle.std.specs.Prelude.{◌≡◌, ◌<◌, None};
 ghost use Rattle.theory.specs.Rules.{nothing_here, no_room};
-ghost use Rattle.theory.specs.Singles.{alone, single_place, single_places};
+ghost use Rattle.theory.specs.Singles.{alone, single_places};
 ghost use Rattle.std.proofs.Common.{rules};
 
 use crate::inference::{Inference, Outcome};

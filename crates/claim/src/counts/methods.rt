@@ -1,4 +1,4 @@
-ghost use Rattle.std.specs.Prelude.{◌≡◌, ◌+◌, ◌<◌, ◌≤◌, nat_le};
+ghost use Rattle.std.specs.Prelude.{◌≡◌, ◌+◌, ◌<◌, nat_le};
 ghost use Rattle.claim.specs.Counted.{place_of, NothingCounted, LiteralCounted, StepCounted};
 
 use super::Counts;

@@ -1,4 +1,4 @@
-ghost use Rattle.std.specs.Prelude.{◌≡◌, ◌<◌, ◌≤◌, [], ◌∷◌, length, MatchBool, MatchOption};
+ghost use Rattle.std.specs.Prelude.{◌≡◌, ◌<◌, ◌≤◌, [], ◌∷◌, length, MatchBool};
 ghost use Rattle.claim.specs.Stacks.{stack_splits};
 ghost use Rattle.claim.specs.Derivations.{by_branch};
 ghost use Rattle.claim.specs.Endings.{unbegun};
