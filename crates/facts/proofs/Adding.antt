@@ -41,18 +41,20 @@ size_share limit z true h = h
 size_share limit z false h = omega arith
 
 -- after i of the pairs
-pub record Adding (pairs : List SentPair) (i at : ℕ) (cs : List ℤ) : Type 0 where
+pub record Adding (pairs : List SentPair) (i : ℕ) (cs : List ℤ) : Type 0 where
   pub long : length cs ≡ 32
-  pub place : at ≡ 5 + 5 * i
   pub sums : (k : ℕ) → k < 32 → get_or cs k (pos 0) ≡ added k (take i pairs)
   pub small : (k : ℕ) → Sized (i * sent_limit) (get_or cs k (pos 0))
-  pub left : first_bad (pair_fields 5 pairs) ≡ first_bad (pair_fields at (drop i pairs))
+  pub left : first_bad (pair_fields 5 pairs) ≡ first_bad (pair_fields (5 + 5 * i) (drop i pairs))
 
 -- the pair at i
 abbrev pub pair_at : List SentPair → ℕ → SentPair
 pair_at pairs i = get_or pairs i (record { name = 0; coefficient = pos 0 })
 
-module _ (pairs : List SentPair) (i at : ℕ) (cs : List ℤ) (within : i < length pairs) (h : Adding pairs i at cs) where
+module _ (pairs : List SentPair) (i : ℕ) (cs : List ℤ) (within : i < length pairs) (h : Adding pairs i cs) where
+  abbrev at : ℕ
+  at = 5 + 5 * i
+
   abbrev p : SentPair
   p = pair_at pairs i
 
@@ -60,15 +62,15 @@ module _ (pairs : List SentPair) (i at : ℕ) (cs : List ℤ) (within : i < leng
   open_left = h.left ∙ ap (λ ps. first_bad (pair_fields at ps)) (drop_more pairs i _ within)
 
   -- the pair's name is out of range
-  pub bad_name : 32 ≤ (pair_at pairs i).name → first_bad (pair_fields 5 pairs) ≡ Some at
+  pub bad_name : 32 ≤ (pair_at pairs i).name → first_bad (pair_fields 5 pairs) ≡ Some (5 + 5 * i)
   bad_name big = open_left ∙ grind (arith, nat_tests)
 
   -- its coefficient is
-  pub bad_coefficient : (pair_at pairs i).name < 32 → (Sized sent_limit (pair_at pairs i).coefficient → ⊥) → first_bad (pair_fields 5 pairs) ≡ Some (at + 1)
+  pub bad_coefficient : (pair_at pairs i).name < 32 → (Sized sent_limit (pair_at pairs i).coefficient → ⊥) → first_bad (pair_fields 5 pairs) ≡ Some (5 + 5 * i + 1)
   bad_coefficient named big = open_left ∙ grind (arith, nat_tests)
 
   -- the pair is added to the coefficient of its name
-  pub one_more : (n : ℕ) (z : ℤ) (new : List ℤ) → n < 32 → n ≡ (pair_at pairs i).name → z ≡ (pair_at pairs i).coefficient → Sized sent_limit z → new ≡ set cs n (get_or cs n (pos 0) +ℤ z) → Adding pairs (i + 1) (at + 5) new
+  pub one_more : (n : ℕ) (z : ℤ) (new : List ℤ) → n < 32 → n ≡ (pair_at pairs i).name → z ≡ (pair_at pairs i).coefficient → Sized sent_limit z → new ≡ set cs n (get_or cs n (pos 0) +ℤ z) → Adding pairs (i + 1) new
   one_more n z new named name-is z-is sized New-is =
       let inside : n < length cs = omega (arith, h.long) in
       let behind : take (i + 1) pairs ≡ take i pairs ++ (p ∷ []) = take_more pairs i _ within in
@@ -76,7 +78,6 @@ module _ (pairs : List SentPair) (i at : ℕ) (cs : List ℤ) (within : i < leng
       let at-k : (k : ℕ) → get_or new k (pos 0) ≡ get_or cs k (pos 0) +ℤ cond (eqb n k) z (pos 0) = λ k. ap (λ zs. get_or zs k (pos 0)) New-is ∙ written cs n z k inside in
       record {
         long = ap length New-is ∙ length-set cs n _ ∙ h.long;
-        place = omega (arith, h.place);
         sums = λ k below. at-k k ∙ ap (λ x. x +ℤ cond (eqb n k) z (pos 0)) (h.sums k below) ∙ ap (λ x. added k (take i pairs) +ℤ x) (shared k) ∙ sym (added_push k (take i pairs) p) ∙ ap (added k) (sym behind);
         small = λ k. subst (λ x. Sized ((i + 1) * sent_limit) x) (sym (at-k k)) (omega (arith, size_add (get_or cs k (pos 0)) (cond (eqb n k) z (pos 0)), size_share sent_limit z (eqb n k) sized, h.small k));
         left = open_left ∙ grind (arith, nat_tests);
@@ -89,22 +90,21 @@ zero_at n k =
     (λ h. get_or-replicate n k (pos 0) (pos 0) h.1)
     (leb_tells n k)
 
-pub none_yet : (pairs : List SentPair) → Adding pairs 0 5 (replicate 32 (pos 0))
+pub none_yet : (pairs : List SentPair) → Adding pairs 0 (replicate 32 (pos 0))
 none_yet pairs =
     record {
       long = length-replicate 32 (pos 0);
-      place = refl;
       sums = λ k below. zero_at 32 k;
       small = λ k. subst (λ z. Sized (0 * sent_limit) z) (sym (zero_at 32 k)) (omega arith);
       left = refl;
     }
 
-module _ (s : SentRow) (c : ℤ) (i at : ℕ) (cs : List ℤ) (done : length s.pairs ≤ i) (few : i ≤ 4) (h : Adding s.pairs i at cs) where
+module _ (s : SentRow) (i : ℕ) (cs : List ℤ) (done : length s.pairs ≤ i) (few : i ≤ 4) (h : Adding s.pairs i cs) where
   pub all_small : AllSized row_limit cs
   all_small k = omega (arith, h.small k)
 
   pub all_good : first_bad (pair_fields 5 s.pairs) ≡ None
-  all_good = h.left ∙ ap (λ ps. first_bad (pair_fields at ps)) (drop_all i s.pairs done)
+  all_good = h.left ∙ ap (λ ps. first_bad (pair_fields (5 + 5 * i) ps)) (drop_all i s.pairs done)
 
   pub all_added : (r : Row) → r.constant ≡ s.constant → r.coefficients ≡ cs → Sums s r
   all_added r e f =

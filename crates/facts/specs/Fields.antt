@@ -2,6 +2,7 @@
 use Rattle.std.specs.Prelude.{◌≡◌, ℕ, ◌+◌, ◌<◌, ◌≤◌, Bool, cond, List, [], ◌∷◌, ◌++◌, ℤ, pos, ◌+ℤ◌, Some, None, Ok, Err, Option, Result, ◌==◌, nat_le, slice_index_or, unsigned_abs}
 use Rattle.facts.specs.Sizes.{sent_limit}
 use Rattle.facts.specs.declared.fact.Fact.{Fact}
+use Rattle.facts.specs.declared.fault.BadField.{BadField}
 use Rattle.facts.specs.declared.literal.Literal.{Literal}
 use Rattle.facts.specs.declared.literal.SentPair.{SentPair}
 use Rattle.facts.specs.declared.literal.SentRow.{SentRow}
@@ -78,14 +79,14 @@ Stands (Literal.Equal t u) f = (a : Term) × (b : Term) × (f ≡ Fact.Equal a b
 Stands (Literal.Distinct t u) f = (a : Term) × (b : Term) × (f ≡ Fact.Distinct a b) × (sent a ≡ t) × (sent b ≡ u)
 Stands (Literal.Linear how s) f = (r : Row) × (f ≡ Fact.Linear how r) × Sums s r
 
-abbrev pub TermChecked : SentTerm → Result Term ℕ → Type 0
+abbrev pub TermChecked : SentTerm → Result Term BadField → Type 0
 TermChecked t (Ok a) = ((at : ℕ) → first_bad (term_fields at t) ≡ None) × (sent a ≡ t)
-TermChecked t (Err b) = (b ≤ 3) × ((at : ℕ) → first_bad (term_fields at t) ≡ Some (at + b))
+TermChecked t (Err bad) = (bad.byte ≤ 3) × ((at : ℕ) → first_bad (term_fields at t) ≡ Some (at + bad.byte))
 
-abbrev pub RowChecked : SentRow → Result Row ℕ → Type 0
+abbrev pub RowChecked : SentRow → Result Row BadField → Type 0
 RowChecked s (Ok row) = (first_bad (row_fields s) ≡ None) × Sums s row
-RowChecked s (Err b) = first_bad (row_fields s) ≡ Some b
+RowChecked s (Err bad) = first_bad (row_fields s) ≡ Some bad.byte
 
-abbrev pub SidesChecked : SentTerm → SentTerm → Result (Term × Term) ℕ → Type 0
+abbrev pub SidesChecked : SentTerm → SentTerm → Result (Term × Term) BadField → Type 0
 SidesChecked t u (Ok ab) = (first_bad (term_fields 1 t ++ term_fields 5 u) ≡ None) × (sent ab.0 ≡ t) × (sent ab.1 ≡ u)
-SidesChecked t u (Err b) = first_bad (term_fields 1 t ++ term_fields 5 u) ≡ Some b
+SidesChecked t u (Err bad) = first_bad (term_fields 1 t ++ term_fields 5 u) ≡ Some bad.byte

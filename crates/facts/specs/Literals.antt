@@ -1,8 +1,9 @@
 -- When a literal is true, and what it is to check one.
-use Rattle.std.specs.Prelude.{◌≡◌, ℕ, cond, List, [], ◌∷◌, ℤ, pos, ◌+ℤ◌, ◌*ℤ◌, Some, None, Ok, Err, Result, ◌==◌}
+use Rattle.std.specs.Prelude.{◌≡◌, cond, List, [], ◌∷◌, ℤ, pos, ◌+ℤ◌, ◌*ℤ◌, Some, None, Ok, Err, Result, ◌==◌}
 use Rattle.facts.specs.Fields.{first_bad, literal_fields, Stands}
 use Rattle.facts.specs.Valuations.{Valuation, Compares, True}
 use Rattle.facts.specs.declared.fact.Fact.{Fact}
+use Rattle.facts.specs.declared.fault.BadField.{BadField}
 use Rattle.facts.specs.declared.literal.Literal.{Literal}
 use Rattle.facts.specs.declared.literal.SentPair.{SentPair}
 use Rattle.facts.specs.declared.literal.SentRow.{SentRow}
@@ -29,7 +30,7 @@ LiteralTrue v (Literal.Distinct t u) = sent_number v t ≡ sent_number v u → �
 LiteralTrue v (Literal.Linear how s) = Compares how (sent_row_number v s)
 
 -- the answer of a check: the fact that the literal stands for, true in just the same valuations,
--- or the byte of the first bad field
-abbrev pub LiteralChecked : Literal → Result Fact ℕ → Type 0
+-- or the first bad field
+abbrev pub LiteralChecked : Literal → Result Fact BadField → Type 0
 LiteralChecked l (Ok f) = (first_bad (literal_fields l) ≡ None) × Stands l f × ((v : Valuation) → (True v f → LiteralTrue v l) × (LiteralTrue v l → True v f))
-LiteralChecked l (Err b) = first_bad (literal_fields l) ≡ Some b
+LiteralChecked l (Err bad) = first_bad (literal_fields l) ≡ Some bad.byte

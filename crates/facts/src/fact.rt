@@ -3,7 +3,7 @@ use crate::row::Row;
 use crate::term::Term;
 
 // How a row compares with 0.
-#[derive(Clone, Copy, PartialEq)]
+#[derive(Clone, Copy, PartialEq, Eq, Debug)]
 pub enum Relation {
     // row >= 0
     NonNegative,

@@ -26,4 +26,4 @@ pub use literal::{Literal, SentPair, SentRow, SentTerm};
 
 mod fault;
 
-pub use fault::{CallFault, Cause, RecordFault};
+pub use fault::{BadField, CallFault, Cause, RecordFault};

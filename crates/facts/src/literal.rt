@@ -5,6 +5,7 @@ ghost use Rattle.facts.specs.Literals.{LiteralChecked};
 ghost use Rattle.facts.specs.Sizes.{Sized, sent_limit};
 
 use crate::fact::{Fact, Relation};
+use crate::fault::BadField;
 use crate::name::Name;
 use crate::row::Row;
 use crate::symbol::Symbol;
@@ -44,77 +45,63 @@ pub enum Literal {
 }
 
 impl SentTerm {
-    // The term, or the place of its first bad byte, counted from its tag.
-    pub fn check(self) -> Result<Term, u8>
+    // The term, or its first bad field, counted from its tag.
+    pub fn check(self) -> Result<Term, BadField>
         ensures { TermChecked self result }
     {
         match self.tag {
             0 => self.check_bare(),
             1 => self.check_unary(),
             2 => self.check_binary(),
-            _ => Err(0),
+            _ => Err(BadField { byte: 0 }),
         }
     }
 }
 
-// By tag.
 impl SentTerm {
-    // The term, or its first bad byte in a record where it begins at a byte.
-    fn check_at(self, at: u8) -> Result<Term, u8>
+    // The term, or its first bad field in a record where it begins at a byte.
+    fn check_at(self, at: u8) -> Result<Term, BadField>
         requires { at ≤ 8 }
-        ensures { MatchResult result (λ t. (first_bad (term_fields at self) ≡ None) × (sent t ≡ self)) (λ b. first_bad (term_fields at self) ≡ Some b) }
+        ensures { MatchResult result (λ t. (first_bad (term_fields at self) ≡ None) × (sent t ≡ self)) (λ bad. first_bad (term_fields at self) ≡ Some bad.byte) }
     {
-        match self.check() {
-            Ok(term) => Ok(term),
-            Err(byte) => Err(at + byte),
-        }
+        self.check().map_err(|bad| BadField {
+            byte: at + bad.byte,
+        })
     }
 
-    fn check_bare(self) -> Result<Term, u8>
+    fn check_bare(self) -> Result<Term, BadField>
         requires { self.tag ≡ 0 }
         ensures { TermChecked self result }
     {
         if self.letter != 0 {
-            return Err(1);
+            return Err(BadField { byte: 1 });
         }
-        let Some(name) = Name::new(self.first) else {
-            return Err(2);
-        };
+        let name = Name::new(self.first).ok_or(BadField { byte: 2 })?;
         if self.second != 0 {
-            return Err(3);
+            return Err(BadField { byte: 3 });
         }
         Ok(Term::Bare(name))
     }
 
-    fn check_unary(self) -> Result<Term, u8>
+    fn check_unary(self) -> Result<Term, BadField>
         requires { self.tag ≡ 1 }
         ensures { TermChecked self result }
     {
-        let Some(symbol) = Symbol::new(self.letter) else {
-            return Err(1);
-        };
-        let Some(name) = Name::new(self.first) else {
-            return Err(2);
-        };
+        let symbol = Symbol::new(self.letter).ok_or(BadField { byte: 1 })?;
+        let name = Name::new(self.first).ok_or(BadField { byte: 2 })?;
         if self.second != 0 {
-            return Err(3);
+            return Err(BadField { byte: 3 });
         }
         Ok(Term::Unary(symbol, name))
     }
 
-    fn check_binary(self) -> Result<Term, u8>
+    fn check_binary(self) -> Result<Term, BadField>
         requires { self.tag ≡ 2 }
         ensures { TermChecked self result }
     {
-        let Some(symbol) = Symbol::new(self.letter) else {
-            return Err(1);
-        };
-        let Some(first) = Name::new(self.first) else {
-            return Err(2);
-        };
-        let Some(second) = Name::new(self.second) else {
-            return Err(3);
-        };
+        let symbol = Symbol::new(self.letter).ok_or(BadField { byte: 1 })?;
+        let first = Name::new(self.first).ok_or(BadField { byte: 2 })?;
+        let second = Name::new(self.second).ok_or(BadField { byte: 3 })?;
         Ok(Term::Binary(symbol, first, second))
     }
 }
@@ -123,45 +110,41 @@ impl SentTerm {
 fn sendable(number: i32) -> bool
     ensures { Decides result (Sized sent_limit number) }
 {
-    -SENT_LIMIT <= number && number <= SENT_LIMIT
+    (-SENT_LIMIT..=SENT_LIMIT).contains(&number)
 }
 
 // Adds a coefficient to a name's.
 fn add(coefficients: &mut [i64; 32], name: Name, coefficient: i32)
-    requires { (length coefficients.old ≡ 32) × (Sized (3 * sent_limit) (slice_index_or coefficients.old name.index (pos 0))) }
+    requires long { length coefficients.old ≡ 32 }
+    requires room { Sized (3 * sent_limit) (slice_index_or coefficients.old name.index (pos 0)) }
     ensures { coefficients.new ≡ slice_set coefficients.old name.index (slice_index_or coefficients.old name.index (pos 0) +ℤ coefficient) }
 {
-    let i = name.index() as usize;
-    let sum = coefficients[i] + i64::from(coefficient);
-    coefficients[i] = sum;
+    coefficients[usize::from(name)] += i64::from(coefficient);
 }
 
 impl SentRow {
-    // The row, or the byte of its first bad field in its record.
-    pub fn check(self) -> Result<Row, u8>
+    // The row, or its first bad field in its record.
+    pub fn check(self) -> Result<Row, BadField>
         ensures { RowChecked self result }
     {
         if !sendable(self.constant) {
-            return Err(1);
+            return Err(BadField { byte: 1 });
         }
         let mut coefficients = [0; 32];
-        let mut at: u8 = 5;
-        for pair in self.pairs {
-            let Some(name) = Name::new(pair.name) else {
-                return Err(at);
-            };
+        for (i, pair) in self.pairs.iter().enumerate() {
+            let at = u8::try_from(5 + 5 * i).unwrap();
+            let name = Name::new(pair.name).ok_or(BadField { byte: at })?;
             if !sendable(pair.coefficient) {
-                return Err(at + 1);
+                return Err(BadField { byte: at + 1 });
             }
             add(&mut coefficients, name, pair.coefficient);
-            at += 5;
         }
         Ok(Row::within(i64::from(self.constant), coefficients))
     }
 }
 
 // The two terms of a literal, which begin at bytes 1 and 5 of its record.
-fn check_sides(left: SentTerm, right: SentTerm) -> Result<(Term, Term), u8>
+fn check_sides(left: SentTerm, right: SentTerm) -> Result<(Term, Term), BadField>
     ensures { SidesChecked left right result }
 {
     let t = left.check_at(1)?;
@@ -170,8 +153,8 @@ fn check_sides(left: SentTerm, right: SentTerm) -> Result<(Term, Term), u8>
 }
 
 impl Literal {
-    // The fact that the literal stands for, or the byte of its first bad field in its record.
-    pub fn check(self) -> Result<Fact, u8>
+    // The fact that the literal stands for, or its first bad field in its record.
+    pub fn check(self) -> Result<Fact, BadField>
         ensures { LiteralChecked self result }
     {
         match self {

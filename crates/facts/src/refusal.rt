@@ -1,11 +1,8 @@
-ghost use Rattle.std.specs.Prelude.{◌≡◌, Decides, nat_eq};
-ghost use Rattle.std.specs.Ordering.{on};
+ghost use Rattle.std.specs.Prelude.{◌≡◌};
 ghost use Rattle.facts.specs.Refusals.{refusal_number, refusal_layer};
-ghost use Rattle.std.specs.Cmp.Rules.{comparing};
-ghost use Rattle.std.proofs.Common.{rules};
 
 // Why a call is refused. The check that fails first decides, in this order.
-#[derive(Clone, Copy, Debug)]
+#[derive(Clone, Copy, PartialEq, Eq, Debug)]
 pub enum Refusal {
     InputTooLong,
     UnknownKind,
@@ -29,7 +26,7 @@ pub enum Refusal {
 }
 
 // The part of the checker that refuses.
-#[derive(Clone, Copy, PartialEq, Debug)]
+#[derive(Clone, Copy, PartialEq, Eq, Debug)]
 pub enum Layer {
     Program,
     Reader,
@@ -41,9 +38,10 @@ pub enum Layer {
 }
 
 impl Refusal {
-    // The number that a refusal is printed by.
+    // The number that a refusal is printed by. No other refusal has it.
     pub fn number(self) -> u8
-        ensures { result ≡ refusal_number self }
+        ensures value { result ≡ refusal_number self }
+        ensures one { (r : Refusal) → refusal_number r ≡ result → r ≡ self }
     {
         match self {
             Refusal::InputTooLong => 1,
@@ -89,19 +87,5 @@ impl Refusal {
             Refusal::TableFull => Layer::Table,
             Refusal::SheetFull => Layer::Sheet,
         }
-    }
-}
-
-// No two refusals have one number.
-impl PartialEq for Refusal {
-    ghost eq = { on refusal_number nat_eq };
-
-    ghost laws = { Prim.search (comparing, rules) };
-
-    fn eq(&self, other: &Refusal) -> bool
-        ensures value { result ≡ on refusal_number nat_eq self.now other.now }
-        ensures same { Decides result (self.now ≡ other.now) }
-    {
-        self.number() == other.number()
     }
 }

@@ -3,7 +3,9 @@ ghost use Rattle.std.specs.Prelude.{◌<◌};
 
 pub mod methods;
 
-#[derive(Clone, Copy)]
+// Not one type with `Name`: the two share two short methods, and a name alone is printed and is a place
+// in a list.
+#[derive(Clone, Copy, PartialEq, Eq)]
 pub struct Symbol {
     index: u8,
     ghost lettered: { index < 16 },

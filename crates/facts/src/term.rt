@@ -5,7 +5,7 @@ use crate::name::Name;
 use crate::symbol::Symbol;
 
 // A term: a bare name, or an unknown function applied to one or two names.
-#[derive(Clone, Copy, PartialEq)]
+#[derive(Clone, Copy, PartialEq, Eq)]
 pub enum Term {
     Bare(Name),
     Unary(Symbol, Name),

@@ -1,13 +1,10 @@
-ghost use Rattle.std.specs.Prelude.{◌≡◌, ◌<◌, ◌≤◌, ◌++◌, Some, codes, decimal, Decides, MatchOption, nat_eq};
-ghost use Rattle.std.specs.Ordering.{on};
-ghost use Rattle.std.specs.Cmp.Rules.{comparing};
-ghost use Rattle.std.proofs.Common.{rules, arith};
+ghost use Rattle.std.specs.Prelude.{◌≡◌, ◌<◌, ◌≤◌, ◌++◌, Some, codes, decimal, MatchOption};
 
 use super::Name;
 use std::fmt;
 
 impl Name {
-    // The name with this index, or none from 32 on.
+    // The name with this index, or none from 32 on. A `TryFrom` could say no more in its error.
     pub fn new(index: u8) -> Option<Name>
         ensures { MatchOption result (32 ≤ index) (λ n. n.index ≡ index) }
     {
@@ -18,24 +15,22 @@ impl Name {
         }
     }
 
+    // No other name has it.
     pub fn index(self) -> u8
         ensures value { result ≡ self.index }
         ensures bound { result < 32 }
+        ensures one { (n : Name) → n.index ≡ result → n ≡ self }
     {
         self.index
     }
 }
 
-impl PartialEq for Name {
-    ghost eq = { on (λ v. v.index) nat_eq };
+// A name's place in a list of one entry for each name.
+impl From<Name> for usize {
+    ghost from_gives = { λ name place. place ≡ name.index };
 
-    ghost laws = { first_of (Prim.search (comparing, rules), Prim.grind (arith, Self.row.coded.inj)) };
-
-    fn eq(&self, other: &Name) -> bool
-        ensures value { result ≡ on (λ v. v.index) nat_eq self.now other.now }
-        ensures same { Decides result (self.now ≡ other.now) }
-    {
-        self.index == other.index
+    fn from(name: Name) -> usize {
+        usize::from(name.index)
     }
 }
 

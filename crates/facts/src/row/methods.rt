@@ -1,4 +1,5 @@
 ghost use Rattle.std.specs.Prelude.{◌≡◌, pos, Decides, MatchOption, slice_index_or};
+ghost use Rattle.std.specs.List.{All};
 ghost use Rattle.facts.specs.Sizes.{Sized, AllSized, row_limit};
 
 use super::Row;
@@ -11,18 +12,13 @@ pub const ROW_LIMIT: i64 = 1_000_000_000_000;
 fn fits(number: i64) -> bool
     ensures { Decides result (Sized row_limit number) }
 {
-    -ROW_LIMIT <= number && number <= ROW_LIMIT
+    (-ROW_LIMIT..=ROW_LIMIT).contains(&number)
 }
 
 fn all_fit(numbers: &[i64; 32]) -> bool
-    ensures { Decides result (AllSized row_limit numbers.now) }
+    ensures { Decides result (All (Sized row_limit) numbers.now) }
 {
-    for number in numbers {
-        if !fits(*number) {
-            return false;
-        }
-    }
-    true
+    numbers.iter().all(|number| fits(*number))
 }
 
 impl Row {
@@ -42,7 +38,8 @@ impl Row {
 
     // The row with these numbers, which are known to be small enough.
     pub(crate) fn within(constant: i64, coefficients: [i64; 32]) -> Row
-        requires { (Sized row_limit constant) × (AllSized row_limit coefficients) }
+        requires sized { Sized row_limit constant }
+        requires all_sized { AllSized row_limit coefficients }
         ensures { (result.constant ≡ constant) × (result.coefficients ≡ coefficients) }
     {
         Row {
@@ -68,6 +65,6 @@ impl Row {
     pub fn coefficient(&self, name: Name) -> i64
         ensures { result ≡ slice_index_or self.now.coefficients name.index (pos 0) }
     {
-        self.coefficients[name.index() as usize]
+        self.coefficients[usize::from(name)]
     }
 }

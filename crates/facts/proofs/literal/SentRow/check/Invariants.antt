@@ -2,5 +2,5 @@ use Rattle.std.proofs.Common.{◌≡◌}
 use Rattle.facts.proofs.Adding.{Adding}
 use Rattle.facts.proofs.literal.SentRow.check.Given as goal
 
-abbrev pub invariant-loop-pair : goal.invariant-loop-pair
-invariant-loop-pair l = (l.pair-items ≡ l.self.pairs) × Adding l.self.pairs l.pair-index l.at l.coefficients
+abbrev pub invariant-loop-i : goal.invariant-loop-i
+invariant-loop-i l = (l.pair-items ≡ l.fn.self.pairs) × Adding l.fn.self.pairs l.i l.coefficients
