@@ -1,5 +1,5 @@
 -- The literals of the reading rule are true exactly where the converter stores the count.
-use Rattle.std.proofs.Common.{◌≡◌, ℕ, zero, suc, ◌+◌, ◌<◌, ◌≤◌, cond, ℤ, pos, negsuc, ◌+ℤ◌, ◌-ℤ◌, ◌*ℤ◌, neg_ℤ, nat_abs, ◌≤ℤ◌, ◌<ℤ◌, None, sym, refl, subst, ⊎_elim, arith}
+use Rattle.std.proofs.Common.{◌≡◌, ℕ, zero, suc, ◌+◌, ◌<◌, ◌≤◌, cond, ℤ, pos, negsuc, ◌+ℤ◌, ◌-ℤ◌, ◌*ℤ◌, neg_ℤ, nat_abs, ◌≤ℤ◌, ◌<ℤ◌, None, Some, Bool, sym, refl, subst, ⊎_elim, arith}
 use lib.IntN.{zero-*ℤ}
 use Rattle.std.proofs.lemmas.Int.{ints, by_lt_z, clamps}
 use Rattle.std.proofs.lemmas.Bool.Decides.{nat_tests, leb_tells}
@@ -46,12 +46,19 @@ module _ (v : Valuation) (n : Name) (c : ℕ) where
   pub less_than : (LiteralTrue v (bound_literal (Bound.LessThan n c)) → v.numerator n.index <ℤ (pos c *ℤ pos v.denominator)) × (v.numerator n.index <ℤ (pos c *ℤ pos v.denominator) → LiteralTrue v (bound_literal (Bound.LessThan n c)))
   less_than = let e = less_than_number in (λ h. omega (arith, ints), λ h. omega (arith, ints))
 
+-- the bounds below the highest count, and at it
+abbrev two : Name → ℕ → Bounds
+two n c = record { lower = Bound.AtLeast n c; upper = Some (Bound.LessThan n (c + 1)) }
+
+abbrev one : Name → ℕ → Bounds
+one n c = record { lower = Bound.AtLeast n c; upper = None }
+
 module _ (v : Valuation) (n : Name) (c : ℕ) where
   abbrev value : ℤ
   value = v.numerator n.index
 
   -- below the highest count
-  two_exact : c < highest_count → (AllTrue v (bounds_list (Bounds.Two (Bound.AtLeast n c) (Bound.LessThan n (c + 1)))) → Stores v n.index c) × (Stores v n.index c → AllTrue v (bounds_list (Bounds.Two (Bound.AtLeast n c) (Bound.LessThan n (c + 1)))))
+  two_exact : c < highest_count → (AllTrue v (bounds_list (two n c)) → Stores v n.index c) × (Stores v n.index c → AllTrue v (bounds_list (two n c)))
   two_exact below = (
     λ h.
         record {
@@ -72,7 +79,7 @@ module _ (v : Valuation) (n : Name) (c : ℕ) where
       too_much s same over = let more : pos (c + 1) ≤ℤ s.whole = s.floor.largest (pos (c + 1)) over in omega (arith, ints)
 
   -- at the highest count
-  one_exact : c ≡ highest_count → pos 0 ≤ℤ value → (AllTrue v (bounds_list (Bounds.One (Bound.AtLeast n c))) → Stores v n.index c) × (Stores v n.index c → AllTrue v (bounds_list (Bounds.One (Bound.AtLeast n c))))
+  one_exact : c ≡ highest_count → pos 0 ≤ℤ value → (AllTrue v (bounds_list (one n c)) → Stores v n.index c) × (Stores v n.index c → AllTrue v (bounds_list (one n c)))
   one_exact high biased = (
     λ h.
         let w = floor_of value v.denominator v.positive biased in
@@ -103,15 +110,12 @@ Exact n c b =
 rule_exact : (n : Name) (c : ℕ) → c ≤ highest_count → Exact n c (rule n c)
 rule_exact n c few =
     ⊎_elim
-    (λ h. subst (λ t. Exact n c (cond t two one)) (sym h.0) (λ v _. two_exact v n c h.1, (at_least_good n c (omega arith), (less_than_good n (c + 1) (omega (arith, h.1)), tt))))
-    (λ h. subst (λ t. Exact n c (cond t two one)) (sym h.0) (λ v biased. one_exact v n c (omega (arith, h.1)) biased, (at_least_good n c (omega arith), tt)))
+    (λ h. subst (λ t. Exact n c (chosen t)) (sym h.0) (λ v _. two_exact v n c h.1, (at_least_good n c (omega arith), (less_than_good n (c + 1) (omega (arith, h.1)), tt))))
+    (λ h. subst (λ t. Exact n c (chosen t)) (sym h.0) (λ v biased. one_exact v n c (omega (arith, h.1)) biased, (at_least_good n c (omega arith), tt)))
     (leb_tells (suc c) highest_count)
   where
-    two : Bounds
-    two = Bounds.Two (Bound.AtLeast n c) (Bound.LessThan n (c + 1))
-
-    one : Bounds
-    one = Bounds.One (Bound.AtLeast n c)
+    chosen : Bool → Bounds
+    chosen t = record { lower = Bound.AtLeast n c; upper = cond t (Some (Bound.LessThan n (c + 1))) None }
 
 pub taken : (s : SentReading) (n : Name) (b : Bounds) → n.index ≡ s.name → s.count ≤ highest_count → b ≡ rule n s.count → Taken s b
 taken s n b named few by_rule =

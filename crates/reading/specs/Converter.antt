@@ -1,12 +1,12 @@
 -- The converter, and the rule that turns what it stored into literals.
 use Rattle.std.specs.Prelude.{◌≡◌, ℕ, ◌+◌, cond, List, [], ◌∷◌, ℤ, pos, ◌*ℤ◌, ◌≤ℤ◌, Some, None, Ok, Err, Result, nat_le, nat_lt}
 use Rattle.std.specs.Int.{int_min}
+use Rattle.facts.specs.Faults.{out_of_range}
 use Rattle.facts.specs.Fields.{Field, field, first_bad, literal_fields}
 use Rattle.facts.specs.Literals.{LiteralTrue}
 use Rattle.facts.specs.Valuations.{Valuation}
 use Rattle.facts.specs.declared.fault.Cause.{Cause}
 use Rattle.facts.specs.declared.name.Name.{Name}
-use Rattle.facts.specs.declared.refusal.Refusal.{Refusal}
 use Rattle.reading.specs.Bounds.{bound_literal, bounds_list}
 use Rattle.reading.specs.declared.bound.Bound.{Bound}
 use Rattle.reading.specs.declared.bound.Bounds.{Bounds}
@@ -45,7 +45,7 @@ reading_fields s = field 1 (nat_le s.name 31) ∷ field 2 (nat_le s.count highes
 -- n - c >= 0 and c + 1 - n > 0; at the highest count, which stands for every value above it too,
 -- the first alone
 abbrev pub rule : Name → ℕ → Bounds
-rule n c = cond (nat_lt c highest_count) (Bounds.Two (Bound.AtLeast n c) (Bound.LessThan n (c + 1))) (Bounds.One (Bound.AtLeast n c))
+rule n c = record { lower = Bound.AtLeast n c; upper = cond (nat_lt c highest_count) (Some (Bound.LessThan n (c + 1))) None }
 
 -- what is owed of a reading that is taken. The input is biased, so a value below 0 cannot come
 pub record Taken (s : SentReading) (b : Bounds) : Type 0 where
@@ -53,9 +53,6 @@ pub record Taken (s : SentReading) (b : Bounds) : Type 0 where
   pub by_rule : (n : Name) × (n.index ≡ s.name) × (b ≡ rule n s.count)
   pub exact : (v : Valuation) → pos 0 ≤ℤ v.numerator s.name → (AllTrue v (bounds_list b) → Stores v s.name s.count) × (Stores v s.name s.count → AllTrue v (bounds_list b))
   pub sendable : AllGood (bounds_list b)
-
-abbrev pub out_of_range : ℕ → Cause
-out_of_range byte = record { refusal = Refusal.FieldOutOfRange; detail = byte; theory = 0 }
 
 abbrev pub ReadingChecked : SentReading → Result Bounds Cause → Type 0
 ReadingChecked s (Ok b) = Taken s b

@@ -1,5 +1,6 @@
 -- A list of reading records, and the text that is printed of it.
 use Rattle.std.specs.Prelude.{◌≡◌, ℕ, ◌+◌, ◌/◌, ◌%◌, ◌<◌, ◌≤◌, List, [], ◌∷◌, ◌++◌, length, drop, Ok, Err, codes, decimal, Result, ◌≢◌}
+use Rattle.facts.specs.Faults.{because}
 use Rattle.facts.specs.Lines.{refused_line}
 use Rattle.facts.specs.declared.fault.Cause.{Cause}
 use Rattle.facts.specs.declared.fault.RecordFault.{RecordFault}
@@ -22,9 +23,6 @@ reading_kind = 75
 abbrev pub record_bytes : SentReading → List ℕ
 record_bytes s = reading_kind ∷ s.name ∷ s.count % 256 ∷ s.count / 256 ∷ []
 
-abbrev pub because : Refusal → Cause
-because r = record { refusal = r; detail = 0; theory = 0 }
-
 -- bytes that begin with a record that is refused
 pub data Refused : List ℕ → Cause → Type 0 where
   kind : {k : ℕ} {rest : List ℕ} → (k ≢ reading_kind) → Refused (k ∷ rest) (because Refusal.UnknownKind)
@@ -37,8 +35,11 @@ RecordRead bytes (Ok r) = (bytes ≡ record_bytes r.sent ++ drop 4 bytes) × Rea
 RecordRead bytes (Err c) = Refused bytes c
 
 -- the line of a reading, of a list that was read to its end, and of a refused record
+abbrev pub reading_text : SentReading → Bounds → List ℕ
+reading_text s b = codes "n" ++ (decimal s.name ++ (codes " " ++ (decimal s.count ++ (codes ": " ++ bounds_text b))))
+
 abbrev pub reading_line : SentReading → Bounds → List ℕ
-reading_line s b = codes "n" ++ (decimal s.name ++ (codes " " ++ (decimal s.count ++ (codes ": " ++ (bounds_text b ++ codes "\n")))))
+reading_line s b = reading_text s b ++ codes "\n"
 
 abbrev pub total_line : ℕ → ℕ → List ℕ
 total_line readings literals = codes "readings " ++ (decimal readings ++ (codes " literals " ++ (decimal literals ++ codes "\n")))

@@ -13,11 +13,11 @@ pub enum Bound {
     LessThan(Name, u16),
 }
 
-// What one reading states: its literals, in order.
+// What one reading states: its literals, in order. At the highest count there is no upper one.
 #[derive(Clone, Copy)]
-pub enum Bounds {
-    One(Bound),
-    Two(Bound, Bound),
+pub struct Bounds {
+    pub lower: Bound,
+    pub upper: Option<Bound>,
 }
 
 impl Bound {
@@ -62,10 +62,7 @@ impl Bounds {
     pub fn count(self) -> u32
         ensures { result ≡ length (bounds_list self) }
     {
-        match self {
-            Bounds::One(_) => 1,
-            Bounds::Two(_, _) => 2,
-        }
+        1 + u32::from(self.upper.is_some())
     }
 }
 
@@ -84,9 +81,10 @@ impl fmt::Display for Bounds {
     ghost output = { λ x. Some (bounds_text x) };
 
     fn fmt<W: fmt::Write>(&self, f: &mut fmt::Formatter<W>) -> fmt::Result {
-        match self {
-            Bounds::One(only) => write!(f, "{only}"),
-            Bounds::Two(first, second) => write!(f, "{first}, {second}"),
+        let lower = self.lower;
+        match self.upper {
+            None => write!(f, "{lower}"),
+            Some(upper) => write!(f, "{lower}, {upper}"),
         }
     }
 }

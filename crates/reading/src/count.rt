@@ -1,8 +1,8 @@
 ghost use Rattle.std.specs.Prelude.{◌≡◌, ◌≤◌};
-ghost use Rattle.reading.specs.Converter.{ReadingChecked, out_of_range, rule};
+ghost use Rattle.reading.specs.Converter.{ReadingChecked, highest_count, rule};
 
 use crate::bound::{Bound, Bounds};
-use facts::{Cause, Name, Refusal};
+use facts::{BadField, Cause, Name};
 
 // The highest count that the converter stores.
 pub const HIGHEST_COUNT: u16 = 4095;
@@ -19,35 +19,21 @@ impl SentReading {
     pub fn check(self) -> Result<Bounds, Cause>
         ensures { ReadingChecked self result }
     {
-        let Some(name) = Name::new(self.name) else {
-            return Err(bad_field(1));
-        };
+        let name = Name::new(self.name).ok_or(BadField { byte: 1 })?;
         if self.count > HIGHEST_COUNT {
-            return Err(bad_field(2));
+            return Err(BadField { byte: 2 }.into());
         }
         Ok(stated(name, self.count))
     }
 }
 
-fn bad_field(byte: u8) -> Cause
-    ensures { result ≡ out_of_range byte }
-{
-    Cause {
-        refusal: Refusal::FieldOutOfRange,
-        detail: byte,
-        theory: 0,
-    }
-}
-
 // The literals by the reading rule.
 fn stated(name: Name, count: u16) -> Bounds
-    requires { count ≤ 4095 }
+    requires { count ≤ highest_count }
     ensures { result ≡ rule name count }
 {
-    let lower = Bound::AtLeast(name, count);
-    if count < HIGHEST_COUNT {
-        Bounds::Two(lower, Bound::LessThan(name, count + 1))
-    } else {
-        Bounds::One(lower)
+    Bounds {
+        lower: Bound::AtLeast(name, count),
+        upper: (count < HIGHEST_COUNT).then_some(Bound::LessThan(name, count + 1)),
     }
 }

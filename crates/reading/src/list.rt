@@ -1,14 +1,18 @@
 // A list of reading records, and the text that is printed of it.
-ghost use Rattle.std.specs.Prelude.{◌≡◌, ◌<◌, ◌++◌, length, IfOk, string_bytes, OnOk};
-ghost use Rattle.reading.specs.Lists.{Report, RecordRead, reading_line, total_line, fault_line, fault_at, because};
+ghost use Rattle.std.specs.Prelude.{◌≡◌, ◌<◌, length, IfOk, Some, string_bytes};
+ghost use Rattle.reading.specs.Lists.{Report, RecordRead, reading_text, fault_at};
 
 use crate::bound::Bounds;
 use crate::count::SentReading;
 use facts::{CallFault, Cause, RecordFault, Refusal};
 use std::alloc::{AllocError, Global};
+use std::fmt::{self, Write};
 
 // The longest input that a program reads.
 pub const LONGEST_INPUT: usize = 32_768;
+
+// How long a record is: its kind, its name, and its count with the low byte first.
+const RECORD_LENGTH: usize = 4;
 
 // A reading that is taken, as it was sent, with the literals that it states.
 #[derive(Clone, Copy)]
@@ -17,72 +21,42 @@ struct Reading {
     bounds: Bounds,
 }
 
-fn refused(refusal: Refusal) -> Cause
-    ensures { result ≡ because refusal }
-{
-    Cause {
-        refusal,
-        detail: 0,
-        theory: 0,
+impl fmt::Display for Reading {
+    ghost output = { λ x. Some (reading_text x.sent x.bounds) };
+
+    fn fmt<W: fmt::Write>(&self, f: &mut fmt::Formatter<W>) -> fmt::Result {
+        let name = self.sent.name;
+        let count = self.sent.count;
+        let bounds = self.bounds;
+        write!(f, "n{name} {count}: {bounds}")
     }
 }
 
-// The reading at the front of the input, with its literals.
-fn read_record(rest: &[u8]) -> Result<Reading, Cause>
-    requires { 0 < length rest.now }
-    ensures { RecordRead rest.now result }
+// The reading of the record that some bytes are, or begin.
+fn read_record(bytes: &[u8]) -> Result<Reading, Cause>
+    requires { 0 < length bytes.now }
+    ensures { RecordRead bytes.now result }
 {
-    if rest[0] as char != 'K' {
-        return Err(refused(Refusal::UnknownKind));
+    if char::from(bytes[0]) != 'K' {
+        return Err(Refusal::UnknownKind.into());
     }
-    if rest.len() < 4 {
-        return Err(refused(Refusal::BodyCutShort));
-    }
-    let sent = SentReading {
-        name: rest[1],
-        count: u16::from_le_bytes([rest[2], rest[3]]),
+    let [_, name, low, high, ..] = *bytes else {
+        return Err(Refusal::BodyCutShort.into());
     };
-    match sent.check() {
-        Ok(bounds) => Ok(Reading { sent, bounds }),
-        Err(cause) => Err(cause),
-    }
+    let sent = SentReading {
+        name,
+        count: u16::from_le_bytes([low, high]),
+    };
+    let bounds = sent.check()?;
+    Ok(Reading { sent, bounds })
 }
 
 // The fault of a record that begins at an offset, after so many literals.
 fn fault_at(cause: Cause, place: u32, offset: usize) -> RecordFault
     ensures { result ≡ fault_at cause place offset }
 {
-    let call = CallFault {
-        cause,
-        address: 0,
-        place,
-        depth: 0,
-    };
+    let call = CallFault::unaddressed(cause, place, 0);
     RecordFault { call, offset }
-}
-
-fn put_reading(out: &mut String, heap: Global, reading: Reading) -> Result<(), AllocError>
-    ensures { OnOk result (string_bytes out.new ≡ string_bytes out.old ++ reading_line reading.sent reading.bounds) }
-{
-    let name = reading.sent.name;
-    let count = reading.sent.count;
-    let bounds = reading.bounds;
-    let line = format!(in heap; "n{name} {count}: {bounds}\n")?;
-    out.push_str(line.as_str())
-}
-
-fn put_total(out: &mut String, heap: Global, readings: u32, literals: u32) -> Result<(), AllocError>
-    ensures { OnOk result (string_bytes out.new ≡ string_bytes out.old ++ total_line readings literals) }
-{
-    let line = format!(in heap; "readings {readings} literals {literals}\n")?;
-    out.push_str(line.as_str())
-}
-
-fn put_fault(out: &mut String, heap: Global, fault: RecordFault) -> Result<(), AllocError>
-    ensures { OnOk result (string_bytes out.new ≡ string_bytes out.old ++ fault_line fault) }
-{
-    let line = format!(in heap; "{fault}\n")?;
-    out.push_str(line.as_str())
 }
 
 // The text that is printed of an input.
@@ -91,30 +65,25 @@ pub fn report(heap: Global, input: &[u8]) -> Result<String, AllocError>
 {
     let mut out = String::new(heap);
     if input.len() > LONGEST_INPUT {
-        put_fault(
-            &mut out,
-            heap,
-            fault_at(refused(Refusal::InputTooLong), 0, 0),
-        )?;
+        let fault = fault_at(Refusal::InputTooLong.into(), 0, 0);
+        writeln!(out, "{fault}")?;
         return Ok(out);
     }
-    let mut offset = 0;
-    let mut readings = 0;
     let mut literals = 0;
-    while offset < input.len() {
-        match read_record(&input[offset..]) {
+    for (i, record) in input.chunks(RECORD_LENGTH).enumerate() {
+        match read_record(record) {
             Ok(reading) => {
-                put_reading(&mut out, heap, reading)?;
+                writeln!(out, "{reading}")?;
                 literals += reading.bounds.count();
             }
             Err(cause) => {
-                put_fault(&mut out, heap, fault_at(cause, literals, offset))?;
+                let fault = fault_at(cause, literals, RECORD_LENGTH * i);
+                writeln!(out, "{fault}")?;
                 return Ok(out);
             }
         }
-        readings += 1;
-        offset += 4;
     }
-    put_total(&mut out, heap, readings, literals)?;
+    let readings = input.len() / RECORD_LENGTH;
+    writeln!(out, "readings {readings} literals {literals}")?;
     Ok(out)
 }
