@@ -2,7 +2,7 @@
 use Rattle.std.proofs.Common.{◌≡◌, ℕ, ◌+◌, ◌-◌, ◌*◌, ◌/◌, ◌%◌, ◌<◌, Bool, true, false, cond, eqb, length, is_some, Some, None, Ok, Err, Option, Result, sym, refl, ap, ◌∙◌, subst, ⊎_elim, arith}
 use mathlib.Core.Path.{fun_ext}
 use Rattle.std.proofs.lemmas.Bool.Decides.{eqb_tells}
-use Rattle.std.specs.Option.{option_map}
+use Rattle.std.specs.Option.{option_map, MatchOption}
 use Rattle.facts.specs.declared.fact.Comparison.{Comparison}
 use Rattle.facts.specs.declared.fact.Fact.{Fact}
 use Rattle.facts.specs.declared.refusal.Refusal.{Refusal}
@@ -214,13 +214,21 @@ both_told ps qs s s' t t' l r c x y answer h k =
     (done (TellingAnswer (qs t) (telling_wanted r c)) t t' _ y (never_told _ _ (right_room (ps s) (qs t) (telling_wanted l c) (telling_wanted r c) fits)) k))
 
 -- what one side answers when it is told, by its rules
-pub pair_telling_left : (ps qs : Places) (l r : Book) (c : Comparison) (e : Refusal) → TellingAnswer ps (telling_wanted l c) (Some e) → TellingAnswer (beside ps qs) (telling_wanted (beside l r) c) (Some e)
-pair_telling_left ps qs l r c e h =
-    subst (λ w. TellingAnswer (beside ps qs) w (Some e)) (sym (telling_beside l r c)) (telling_left ps qs (telling_wanted l c) (telling_wanted r c) e h)
+-- where the left side answers first, and the right one only if the left one would take it
+pub pair_telling : (ps qs : Places) (l r : Book) (c : Comparison) (o both : Option Refusal) → TellingAnswer ps (telling_wanted l c) o → MatchOption o (TellingAnswer qs (telling_wanted r c) both) (λ e. both ≡ Some e) → TellingAnswer (beside ps qs) (telling_wanted (beside l r) c) both
+pair_telling ps qs l r c o both h k = subst (λ w. TellingAnswer (beside ps qs) w both) (sym (telling_beside l r c)) (either o h k)
+  where
+    either : (o : Option Refusal) → TellingAnswer ps (telling_wanted l c) o → MatchOption o (TellingAnswer qs (telling_wanted r c) both) (λ e. both ≡ Some e) → TellingAnswer (beside ps qs) (beside (telling_wanted l c) (telling_wanted r c)) both
+    either None h k = telling_right ps qs (telling_wanted l c) (telling_wanted r c) h both k
+    either (Some e) h k = subst (TellingAnswer (beside ps qs) (beside (telling_wanted l c) (telling_wanted r c))) (sym k) (telling_left ps qs (telling_wanted l c) (telling_wanted r c) e h)
 
-pub pair_telling_right : (ps qs : Places) (l r : Book) (c : Comparison) (o : Option Refusal) → TellingAnswer ps (telling_wanted l c) None → TellingAnswer qs (telling_wanted r c) o → TellingAnswer (beside ps qs) (telling_wanted (beside l r) c) o
-pair_telling_right ps qs l r c o h k =
-    subst (λ w. TellingAnswer (beside ps qs) w o) (sym (telling_beside l r c)) (telling_right ps qs (telling_wanted l c) (telling_wanted r c) h o k)
+pub pair_opening : (ps qs : Places) (o both : Option Refusal) → OpeningAnswer ps o → MatchOption o (OpeningAnswer qs both) (λ e. both ≡ Some e) → OpeningAnswer (beside ps qs) both
+pair_opening ps qs None both h k = opening_right ps qs h both k
+pair_opening ps qs (Some e) both h k = subst (OpeningAnswer (beside ps qs)) (sym k) (opening_left ps qs e h)
+
+pub pair_dropping : (ps qs : Places) (o both : Option Refusal) → DroppingAnswer ps o → MatchOption o (DroppingAnswer qs both) (λ e. both ≡ Some e) → DroppingAnswer (beside ps qs) both
+pair_dropping ps qs None both h k = dropping_right ps qs h both k
+pair_dropping ps qs (Some e) both h k = subst (DroppingAnswer (beside ps qs)) (sym k) (dropping_left ps qs e h)
 
 pub pair_literal : (ps qs : Places) (l r : Book) (f : Fact) (o : Option Refusal) → LiteralAnswer (beside ps qs) (beside (literal_wanted l f) (literal_wanted r f)) o → LiteralAnswer (beside ps qs) (literal_wanted (beside l r) f) o
 pair_literal ps qs l r f o h = subst (λ w. LiteralAnswer (beside ps qs) w o) (sym (literal_beside l r f)) h

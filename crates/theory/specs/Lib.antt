@@ -1,6 +1,7 @@
 pub mod Marks
 pub mod Pairs
 pub mod Places
+pub mod Premises
 pub mod Rules
 pub mod Singles
 pub mod Tables

@@ -1,6 +1,7 @@
 -- What a theory does at each address, and what its calls answer and leave.
-use Rattle.std.specs.Prelude.{◌≡◌, ℕ, ◌<◌, ◌≤◌, Bool, cond, List, [], ◌∷◌, length, IfSome, Some, None, Ok, Err, Option, Result, ◌==◌, nat_le}
+use Rattle.std.specs.Prelude.{◌≡◌, ℕ, ◌<◌, ◌≤◌, Bool, cond, List, [], ◌∷◌, length, IfSome, IfOk, Some, None, Ok, Err, Option, Result, ◌==◌, nat_le}
 use Rattle.std.specs.Option.{option_map}
+use Rattle.facts.specs.Faults.{because, cause_by}
 use Rattle.facts.specs.Valuations.{Valuation, True, Compared}
 use Rattle.facts.specs.declared.fact.Comparison.{Comparison}
 use Rattle.facts.specs.declared.fact.Fact.{Fact}
@@ -11,13 +12,13 @@ use Rattle.theory.specs.declared.inference.Inference.{Inference}
 use Rattle.theory.specs.declared.inference.Outcome.{Outcome}
 
 -- the rules at one address: the theory's number; which literals it keeps; which fact, if any, it
--- keeps when it is told how two names compare; and what an inference comes to, from the facts and
--- the current fact alone
+-- keeps when it is told how two names compare; and what an inference comes to, or why it is refused,
+-- from the facts and the current fact alone
 pub record Rules : Type 0 where
   pub number : ℕ
   pub keeps : Fact → Bool
   pub told : Comparison → Option Fact
-  pub outcome : Inference → List Fact → Option Fact → Outcome
+  pub outcome : Inference → List Fact → Option Fact → Result Outcome Cause
 
 -- nothing, or rules, at each address
 abbrev pub Book : Type 0
@@ -34,13 +35,12 @@ OutcomeTrue v (Outcome.Current f) = True v f
 OutcomeTrue v (Outcome.Pushed f) = True v f
 OutcomeTrue v (Outcome.Equal n m) = Compared v (Comparison.Equal n m)
 OutcomeTrue v Outcome.Contradiction = ⊥
-OutcomeTrue v (Outcome.Refused c) = Unit {0}
 
 -- What every theory shows of its rules. In an admitted valuation that makes the facts and the
 -- current fact true, what an inference comes to is true, so a contradiction comes only where there
 -- is no such valuation; and a fact that is kept on telling is true wherever what was told is.
 pub record Sound (admits : Valuation → Type 0) (r : Rules) : Type 0 where
-  pub infers : (v : Valuation) → admits v → (i : Inference) (fs : List Fact) (current : Option Fact) → AllTrue v fs → IfSome current (True v) → OutcomeTrue v (r.outcome i fs current)
+  pub infers : (v : Valuation) → admits v → (i : Inference) (fs : List Fact) (current : Option Fact) → AllTrue v fs → IfSome current (True v) → IfOk (r.outcome i fs current) (OutcomeTrue v)
   pub tells : (v : Valuation) (k : Comparison) → Compared v k → IfSome (r.told k) (True v)
 
 abbrev pub AllSound : (Valuation → Type 0) → Book → Type 0
@@ -117,26 +117,29 @@ Answered Answer before after Done (Err e) = Answer (Some e) × (after ≡ before
 -- ---- an inference
 
 abbrev pub nothing_here : Cause
-nothing_here = record { refusal = Refusal.NothingAtAddress; detail = 0; theory = 0 }
+nothing_here = because Refusal.NothingAtAddress
 
 abbrev pub no_room : ℕ → Cause
-no_room number = record { refusal = Refusal.TableFull; detail = 0; theory = number }
+no_room number = cause_by number (because Refusal.TableFull)
 
 -- a push at a full table is refused
-abbrev pub within_room : ℕ → List Fact → Outcome → Outcome
-within_room number fs (Outcome.Pushed f) = cond (nat_le most_facts (length fs)) (Outcome.Refused (no_room number)) (Outcome.Pushed f)
-within_room number fs (Outcome.Current f) = Outcome.Current f
-within_room number fs (Outcome.Equal n m) = Outcome.Equal n m
-within_room number fs Outcome.Contradiction = Outcome.Contradiction
-within_room number fs (Outcome.Refused c) = Outcome.Refused c
+abbrev pub unless_full : ℕ → List Fact → Outcome → Result Outcome Cause
+unless_full number fs (Outcome.Pushed f) = cond (nat_le most_facts (length fs)) (Err (no_room number)) (Ok (Outcome.Pushed f))
+unless_full number fs (Outcome.Current f) = Ok (Outcome.Current f)
+unless_full number fs (Outcome.Equal n m) = Ok (Outcome.Equal n m)
+unless_full number fs Outcome.Contradiction = Ok Outcome.Contradiction
+
+abbrev pub within_room : ℕ → List Fact → Result Outcome Cause → Result Outcome Cause
+within_room number fs (Ok o) = unless_full number fs o
+within_room number fs (Err c) = Err c
 
 -- what an inference comes to at a place under rules
-abbrev pub outcome_by : Option Rules → Option Place → Inference → Outcome
-outcome_by None p i = Outcome.Refused nothing_here
-outcome_by (Some r) None i = Outcome.Refused nothing_here
+abbrev pub outcome_by : Option Rules → Option Place → Inference → Result Outcome Cause
+outcome_by None p i = Err nothing_here
+outcome_by (Some r) None i = Err nothing_here
 outcome_by (Some r) (Some p) i = within_room r.number p.facts (r.outcome i p.facts p.current)
 
-abbrev pub outcome_at : Book → Places → ℕ → Inference → Outcome
+abbrev pub outcome_at : Book → Places → ℕ → Inference → Result Outcome Cause
 outcome_at book ps a i = outcome_by (book a) (ps a) i
 
 -- what an outcome changes at its address
@@ -145,16 +148,24 @@ changed (Outcome.Current f) p = with_current f p
 changed (Outcome.Pushed f) p = add f p
 changed (Outcome.Equal n m) p = p
 changed Outcome.Contradiction p = p
-changed (Outcome.Refused c) p = p
+
+-- and a refusal nothing
+abbrev pub changed_by : Result Outcome Cause → Place → Place
+changed_by (Ok o) p = changed o p
+changed_by (Err c) p = p
 
 -- and at no other
-abbrev pub ChangedAt : ℕ → Outcome → Places → Places → Type 0
-ChangedAt a o before after = (b : ℕ) → after b ≡ cond (b == a) (option_map (changed o) (before b)) (before b)
+abbrev pub ChangedAt : ℕ → Result Outcome Cause → Places → Places → Type 0
+ChangedAt a r before after = (b : ℕ) → after b ≡ cond (b == a) (option_map (changed_by r) (before b)) (before b)
 
 -- an outcome that changes nothing
-abbrev pub Stays : {S : Type 0} → Outcome → S → S → Type 0
-Stays (Outcome.Current f) before after = Unit {0}
-Stays (Outcome.Pushed f) before after = Unit {0}
-Stays (Outcome.Equal n m) before after = after ≡ before
-Stays Outcome.Contradiction before after = after ≡ before
-Stays (Outcome.Refused c) before after = after ≡ before
+abbrev pub Keeps : {S : Type 0} → Outcome → S → S → Type 0
+Keeps (Outcome.Current f) before after = Unit {0}
+Keeps (Outcome.Pushed f) before after = Unit {0}
+Keeps (Outcome.Equal n m) before after = after ≡ before
+Keeps Outcome.Contradiction before after = after ≡ before
+
+-- nor does a refusal
+abbrev pub Stays : {S : Type 0} → Result Outcome Cause → S → S → Type 0
+Stays (Ok o) before after = Keeps o before after
+Stays (Err c) before after = after ≡ before

@@ -1,5 +1,5 @@
 use crate::factor::Factor;
-use facts::{Cause, Fact, Name, Term};
+use facts::{Fact, Name, Term};
 
 // An argument of a term.
 #[derive(Clone, Copy)]
@@ -37,7 +37,7 @@ pub enum Inference {
     Push,
 }
 
-// What an inference comes to.
+// What an inference that is not refused comes to.
 #[derive(Clone, Copy)]
 pub enum Outcome {
     // a new current fact
@@ -48,5 +48,4 @@ pub enum Outcome {
     Equal(Name, Name),
     // no valuation that is admitted makes the facts and the current fact true
     Contradiction,
-    Refused(Cause),
 }

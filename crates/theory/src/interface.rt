@@ -5,7 +5,7 @@ ghost use Rattle.theory.specs.Places.{Places, empty, opened, dropped};
 ghost use Rattle.theory.specs.Rules.{Book, AllSound, literal_wanted, telling_wanted, LiteralAnswer, TellingAnswer, OpeningAnswer, DroppingAnswer, Took, Answered, outcome_at, ChangedAt, Stays};
 
 use crate::inference::{Inference, Outcome};
-use facts::{Comparison, Fact, Refusal};
+use facts::{Cause, Comparison, Fact, Refusal};
 
 // A theory: facts at addresses, and rules that say what follows from them. Anyone may implement it:
 // the ghost members say what the implementation means, the laws what it shows of that, and each
@@ -24,7 +24,7 @@ pub trait Theory: Sized {
     fn fresh() -> Self
         ensures { (a : ℕ) → places result a ≡ option_map (λ _. empty) (rules a) };
 
-    // Why a literal would be refused.
+    // Why a literal would be refused. A question is not refused itself, so no `Result`.
     fn assume_refusal(&self, fact: &Fact) -> Option<Refusal>
         ensures { LiteralAnswer (places self.now) (literal_wanted rules fact.now) result };
 
@@ -41,7 +41,7 @@ pub trait Theory: Sized {
         ensures { Answered (TellingAnswer (places self.old) (telling_wanted rules comparison)) self.old self.new (Took (places self.old) (telling_wanted rules comparison) (places self.new)) result };
 
     // Applies a rule at one address.
-    fn infer(&mut self, address: usize, inference: Inference) -> Outcome
+    fn infer(&mut self, address: usize, inference: Inference) -> Result<Outcome, Cause>
         ensures outcome { result ≡ outcome_at rules (places self.old) address inference }
         ensures after { ChangedAt address result (places self.old) (places self.new) }
         ensures stays { Stays result self.old self.new };

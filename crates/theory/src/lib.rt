@@ -6,6 +6,7 @@ mod inference;
 mod interface;
 mod logic;
 mod pair;
+mod premises;
 mod single;
 mod table;
 
@@ -15,5 +16,6 @@ pub use inference::{Inference, Outcome, Position};
 pub use interface::Theory;
 pub use logic::Logic;
 pub use pair::Pair;
+pub use premises::Premises;
 pub use single::Single;
 pub use table::Table;

@@ -3,7 +3,8 @@ ghost use Rattle.facts.specs.Valuations.{Valuation};
 ghost use Rattle.theory.specs.Rules.{Rules, Sound};
 
 use crate::inference::{Inference, Outcome};
-use facts::{Comparison, Fact};
+use crate::premises::Premises;
+use facts::{Cause, Comparison, Fact};
 
 // The rules of a theory that stands at one address: what it decides, and why that is sound. Its
 // facts are kept for it (see `Single`).
@@ -26,9 +27,9 @@ pub trait Logic: Sized {
     fn told(&self, comparison: Comparison) -> Option<Fact>
         ensures { result ≡ rules.told comparison };
 
-    // What an inference comes to.
-    fn outcome(&self, inference: Inference, facts: &[Fact], current: &Option<Fact>) -> Outcome
-        ensures { result ≡ rules.outcome inference facts.now current.now };
+    // What an inference comes to, or why it is refused.
+    fn outcome(&self, inference: Inference, premises: Premises) -> Result<Outcome, Cause>
+        ensures { result ≡ rules.outcome inference premises.entry.facts.now premises.entry.current.now };
 
     ghost sound: { Sound admits rules };
 }

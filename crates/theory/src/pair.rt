@@ -1,4 +1,3 @@
-ghost use Rattle.std.specs.Prelude.{◌≡◌, Some, Decides};
 ghost use Rattle.theory.specs.Pairs.{beside};
 ghost use Rattle.theory.specs.Places.{Places};
 ghost use Rattle.theory.specs.Rules.{Wanted, LiteralAnswer};
@@ -6,7 +5,7 @@ ghost use Rattle.std.proofs.Common.{rules};
 
 use crate::inference::{Inference, Outcome};
 use crate::interface::Theory;
-use facts::{Comparison, Fact, Refusal};
+use facts::{Cause, Comparison, Fact, Refusal};
 
 // Two theories, which is a theory again: even address a is a/2 of the left one, odd address a is
 // (a - 1)/2 of the right one. A literal or a telling is taken by both or by neither.
@@ -16,26 +15,17 @@ pub struct Pair<L, R> {
     right: R,
 }
 
-// Whether a question was answered with a full table.
-fn is_full(answer: Option<Refusal>) -> bool
-    ensures { Decides result (answer ≡ Some Refusal.TableFull) }
-{
-    match answer {
-        Some(refusal) => refusal == Refusal::TableFull,
-        None => false,
-    }
-}
-
 // A literal's refusal from those of both sides: it is enough that one side keeps it, and too much
 // if one side is full.
 fn literal_refusal(left: Option<Refusal>, right: Option<Refusal>) -> Option<Refusal>
     ensures { (ps qs : Places) (w x : Wanted) → LiteralAnswer ps w left → LiteralAnswer qs x right → LiteralAnswer (beside ps qs) (beside w x) result }
 {
-    if is_full(left) {
+    let full = Some(Refusal::TableFull);
+    if left == full {
         left
     } else if left.is_some() {
         right
-    } else if is_full(right) {
+    } else if right == full {
         right
     } else {
         None
@@ -68,12 +58,13 @@ impl<L: Theory, R: Theory> Theory for Pair<L, R> {
     }
 
     fn tell_refusal(&self, comparison: Comparison) -> Option<Refusal> {
-        match self.left.tell_refusal(comparison) {
-            Some(refusal) => Some(refusal),
-            None => self.right.tell_refusal(comparison),
-        }
+        self.left
+            .tell_refusal(comparison)
+            .or_else(|| self.right.tell_refusal(comparison))
     }
 
+    // the four calls below are not one function: the sides' types differ, so it would take a closure
+    // for each
     fn assume(&mut self, fact: &Fact) -> Result<(), Refusal> {
         if let Some(refusal) = self.assume_refusal(fact) {
             return Err(refusal);
@@ -88,12 +79,13 @@ impl<L: Theory, R: Theory> Theory for Pair<L, R> {
         if let Some(refusal) = self.tell_refusal(comparison) {
             return Err(refusal);
         }
+        // neither side refuses: both were asked
         let _ = self.left.tell(comparison);
         let _ = self.right.tell(comparison);
         Ok(())
     }
 
-    fn infer(&mut self, address: usize, inference: Inference) -> Outcome {
+    fn infer(&mut self, address: usize, inference: Inference) -> Result<Outcome, Cause> {
         if address % 2 == 0 {
             self.left.infer(address / 2, inference)
         } else {
@@ -102,23 +94,22 @@ impl<L: Theory, R: Theory> Theory for Pair<L, R> {
     }
 
     fn open_refusal(&self) -> Option<Refusal> {
-        match self.left.open_refusal() {
-            Some(refusal) => Some(refusal),
-            None => self.right.open_refusal(),
-        }
+        self.left
+            .open_refusal()
+            .or_else(|| self.right.open_refusal())
     }
 
     fn drop_refusal(&self) -> Option<Refusal> {
-        match self.left.drop_refusal() {
-            Some(refusal) => Some(refusal),
-            None => self.right.drop_refusal(),
-        }
+        self.left
+            .drop_refusal()
+            .or_else(|| self.right.drop_refusal())
     }
 
     fn push_level(&mut self) -> Result<(), Refusal> {
         if let Some(refusal) = self.open_refusal() {
             return Err(refusal);
         }
+        // neither side refuses: both were asked
         let _ = self.left.push_level();
         let _ = self.right.push_level();
         Ok(())
@@ -128,6 +119,7 @@ impl<L: Theory, R: Theory> Theory for Pair<L, R> {
         if let Some(refusal) = self.drop_refusal() {
             return Err(refusal);
         }
+        // neither side refuses: both were asked
         let _ = self.left.pop_level();
         let _ = self.right.pop_level();
         Ok(())

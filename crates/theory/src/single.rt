@@ -1,11 +1,11 @@
 ghost use Rattle.std.specs.Prelude.{◌≡◌, ◌<◌, None};
-ghost use Rattle.theory.specs.Rules.{nothing_here, no_room};
 ghost use Rattle.theory.specs.Singles.{alone, single_places};
 ghost use Rattle.std.proofs.Common.{rules};
 
 use crate::inference::{Inference, Outcome};
 use crate::interface::Theory;
 use crate::logic::Logic;
+use crate::premises::Premises;
 use crate::table::Table;
 use crate::table::methods::MOST_MARKS;
 use facts::{Cause, Comparison, Fact, Name, Refusal, Term};
@@ -18,32 +18,10 @@ pub struct Single<L> {
     current: Option<Fact>,
 }
 
-fn nothing_here() -> Cause
-    ensures { result ≡ nothing_here }
-{
-    Cause {
-        refusal: Refusal::NothingAtAddress,
-        detail: 0,
-        theory: 0,
-    }
-}
-
-fn no_room(theory: u8) -> Cause
-    ensures { result ≡ no_room theory }
-{
-    Cause {
-        refusal: Refusal::TableFull,
-        detail: 0,
-        theory,
-    }
-}
-
 // What rows that are not in use hold.
 fn filler() -> Fact {
-    let Some(name) = Name::new(0) else {
-        return unreachable();
-    };
-    Fact::Equal(Term::Bare(name), Term::Bare(name))
+    let term = Term::Bare(Name::new(0).unwrap());
+    Fact::Equal(term, term)
 }
 
 impl<L> Single<L> {
@@ -78,95 +56,66 @@ impl<L: Logic> Theory for Single<L> {
         if !self.logic.keeps(fact) {
             return Some(Refusal::LiteralNotKept);
         }
-        if self.table.is_full() {
-            Some(Refusal::TableFull)
-        } else {
-            None
-        }
+        self.table.is_full().then_some(Refusal::TableFull)
     }
 
     fn tell_refusal(&self, comparison: Comparison) -> Option<Refusal> {
-        match self.logic.told(comparison) {
-            Some(_) => if self.table.is_full() {
-                Some(Refusal::TableFull)
-            } else {
-                None
-            },
-            None => None,
-        }
+        self.logic.told(comparison)?;
+        self.table.is_full().then_some(Refusal::TableFull)
     }
 
     fn assume(&mut self, fact: &Fact) -> Result<(), Refusal> {
         if !self.logic.keeps(fact) {
             return Err(Refusal::LiteralNotKept);
         }
-        if self.table.push(fact) {
-            Ok(())
-        } else {
-            Err(Refusal::TableFull)
-        }
+        self.table.push(fact)
     }
 
     fn tell(&mut self, comparison: Comparison) -> Result<(), Refusal> {
-        let Some(fact) = self.logic.told(comparison) else {
-            return Ok(());
-        };
-        if self.table.push(&fact) {
-            Ok(())
-        } else {
-            Err(Refusal::TableFull)
+        match self.logic.told(comparison) {
+            Some(fact) => self.table.push(&fact),
+            None => Ok(()),
         }
     }
 
-    fn infer(&mut self, address: usize, inference: Inference) -> Outcome {
+    fn infer(&mut self, address: usize, inference: Inference) -> Result<Outcome, Cause> {
         if address != 0 {
-            return Outcome::Refused(nothing_here());
+            return Err(Refusal::NothingAtAddress.into());
         }
-        let outcome = self
-            .logic
-            .outcome(inference, self.table.facts(), &self.current);
+        let premises = Premises {
+            facts: self.table.facts(),
+            current: &self.current,
+        };
+        let outcome = self.logic.outcome(inference, premises)?;
         match outcome {
-            Outcome::Current(fact) => {
-                self.current = Some(fact);
-            }
+            Outcome::Current(fact) => self.current = Some(fact),
             Outcome::Pushed(fact) => {
-                if !self.table.push(&fact) {
-                    return Outcome::Refused(no_room(self.logic.number()));
-                }
+                let theory = self.logic.number();
+                self.table
+                    .push(&fact)
+                    .map_err(|refusal| Cause::from(refusal).by(theory))?;
             }
-            _ => {}
+            Outcome::Equal(_, _) | Outcome::Contradiction => {}
         }
-        outcome
+        Ok(outcome)
     }
 
     fn open_refusal(&self) -> Option<Refusal> {
-        if self.table.levels() >= MOST_MARKS {
-            Some(Refusal::LevelLimit)
-        } else {
-            None
-        }
+        (self.table.levels() >= MOST_MARKS).then_some(Refusal::LevelLimit)
     }
 
     fn drop_refusal(&self) -> Option<Refusal> {
-        if self.table.levels() == 0 {
-            Some(Refusal::LevelLimit)
-        } else {
-            None
-        }
+        (self.table.levels() == 0).then_some(Refusal::LevelLimit)
     }
 
     fn push_level(&mut self) -> Result<(), Refusal> {
-        if !self.table.open_level() {
-            return Err(Refusal::LevelLimit);
-        }
+        self.table.open_level()?;
         self.clear();
         Ok(())
     }
 
     fn pop_level(&mut self) -> Result<(), Refusal> {
-        if !self.table.drop_level() {
-            return Err(Refusal::LevelLimit);
-        }
+        self.table.drop_level()?;
         self.clear();
         Ok(())
     }

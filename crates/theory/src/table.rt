@@ -5,7 +5,8 @@ use facts::Fact;
 
 pub mod methods;
 
-// The facts at one address, the oldest first, and where each level above the first begins.
+// The facts at one address, the oldest first, and where each level above the first begins. Arrays
+// with how much of them is used: an `ArrayVec` is not `Copy`, and wants a default fact.
 #[derive(Clone, Copy)]
 pub struct Table {
     rows: [Fact; 64],

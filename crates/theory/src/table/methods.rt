@@ -1,9 +1,10 @@
-ghost use Rattle.std.specs.Prelude.{◌≡◌, ◌≤◌, [], length, MatchBool, nat_le};
+ghost use Rattle.std.specs.Prelude.{◌≡◌, ◌≤◌, [], length, MatchResult, nat_le};
+ghost use Rattle.facts.specs.declared.refusal.Refusal.{Refusal};
 ghost use Rattle.theory.specs.Places.{most_facts, most_below};
 ghost use Rattle.theory.specs.Tables.{table_facts, table_below, RowWritten, LevelOpened, LevelDropped};
 
 use super::Table;
-use facts::Fact;
+use facts::{Fact, Refusal};
 
 // How many facts an address holds at most, and how many levels above the first.
 pub const MOST_FACTS: usize = 64;
@@ -45,44 +46,41 @@ impl Table {
         self.levels
     }
 
-    // Writes the next row, and no other; false where the table is full, which is then as it was.
-    pub fn push(&mut self, fact: &Fact) -> bool
-        ensures { MatchBool result (RowWritten self.old fact.now self.new) ((most_facts ≤ length (table_facts self.old)) × (self.new ≡ self.old)) }
+    // Writes the next row, and no other. A full table refuses it, and is as it was.
+    pub fn push(&mut self, fact: &Fact) -> Result<(), Refusal>
+        ensures { MatchResult result (λ _. RowWritten self.old fact.now self.new) (λ e. (e ≡ Refusal.TableFull) × (most_facts ≤ length (table_facts self.old)) × (self.new ≡ self.old)) }
     {
         let next = self.used;
         if next >= MOST_FACTS {
-            return false;
+            return Err(Refusal::TableFull);
         }
         self.rows[next] = *fact;
         self.used = next + 1;
-        true
+        Ok(())
     }
 
-    // Opens a level; false where there are nine, and then all is as it was.
-    pub fn open_level(&mut self) -> bool
-        ensures { MatchBool result (LevelOpened self.old self.new) ((most_below ≤ length (table_below self.old)) × (self.new ≡ self.old)) }
+    // Opens a level. With nine it is refused, and all is as it was.
+    pub fn open_level(&mut self) -> Result<(), Refusal>
+        ensures { MatchResult result (λ _. LevelOpened self.old self.new) (λ e. (e ≡ Refusal.LevelLimit) × (most_below ≤ length (table_below self.old)) × (self.new ≡ self.old)) }
     {
         let next = self.levels;
         if next >= MOST_MARKS {
-            return false;
+            return Err(Refusal::LevelLimit);
         }
         self.marks[next] = self.used;
         self.levels = next + 1;
-        true
+        Ok(())
     }
 
-    // Drops the newest level; false where there is but one, and then all is as it was. The rows
-    // above its mark are no longer in use.
-    pub fn drop_level(&mut self) -> bool
-        ensures { MatchBool result (LevelDropped self.old self.new) ((length (table_below self.old) ≡ 0) × (self.new ≡ self.old)) }
+    // Drops the newest level. With one level it is refused, and all is as it was. The rows above the
+    // level's mark are no longer in use.
+    pub fn drop_level(&mut self) -> Result<(), Refusal>
+        ensures { MatchResult result (λ _. LevelDropped self.old self.new) (λ e. (e ≡ Refusal.LevelLimit) × (length (table_below self.old) ≡ 0) × (self.new ≡ self.old)) }
     {
-        if self.levels == 0 {
-            return false;
-        }
-        let top = self.levels - 1;
+        let top = self.levels.checked_sub(1).ok_or(Refusal::LevelLimit)?;
         let mark = self.marks[top];
         self.used = mark;
         self.levels = top;
-        true
+        Ok(())
     }
 }

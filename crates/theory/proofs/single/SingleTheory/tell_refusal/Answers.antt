@@ -1,13 +1,11 @@
-use Rattle.std.proofs.Common.{arith}
-use Rattle.std.proofs.lemmas.Bool.Decides.{nat_tests}
-use Rattle.theory.proofs.Singles.{telling_full, telling_taken, telling_none}
+use Rattle.std.proofs.Common.{sym, subst, rules}
+use Rattle.theory.specs.Rules.{TellingAnswer, telling_wanted}
+use Rattle.theory.specs.Singles.{alone, single_place, single_places}
+use Rattle.theory.proofs.Singles.{telling_none, telling_asked}
 use Rattle.theory.proofs.single.SingleTheory.tell_refusal.Goals as goal
 
-pub returns-then-is_full : goal.returns-then-is_full
-returns-then-is_full g c = telling_full g.L.Logic.rules _ _ _ c.in-Some.ensures (grind (arith, nat_tests))
+pub returns-in_err-told : goal.returns-in_err-told
+returns-in_err-told g c = subst (TellingAnswer (single_places c.args.self.now) (telling_wanted (alone g.L.Logic.rules) c.args.comparison)) (sym c.from_residual.ensures) (telling_none g.L.Logic.rules (single_place c.args.self.now) _ (search rules)).0
 
-pub returns-else-is_full : goal.returns-else-is_full
-returns-else-is_full g c = telling_taken g.L.Logic.rules _ _ _ c.in-Some.ensures (grind (arith, nat_tests))
-
-pub returns-in-None : goal.returns-in-None
-returns-in-None g c = (telling_none g.L.Logic.rules _ _ c.in-None.ensures).0
+pub returns : goal.returns
+returns g c = telling_asked g.L.Logic.rules (single_place c.args.self.now) _ c.in_ok-told.field-0 (search rules) _ (search rules)
