@@ -1,18 +1,20 @@
 -- The rules of equality with unknown functions.
-use Rattle.std.specs.Prelude.{ℕ, Bool, true, false, cond, ◌&&◌, ◌||◌, List, length, Some, None, Ok, Err, Option, Result}
+use Rattle.std.specs.Prelude.{ℕ, Bool, true, false, cond, ◌&&◌, ◌||◌, List, Some, None, Ok, Err, Option, Result}
 use Rattle.std.specs.List.{slice_get}
+use Rattle.facts.specs.Faults.{because}
 use Rattle.facts.specs.Terms.{bare_name}
 use Rattle.facts.specs.Valuations.{Valuation}
 use Rattle.facts.specs.declared.fact.Comparison.{Comparison}
 use Rattle.facts.specs.declared.fact.Fact.{Fact}
+use Rattle.facts.specs.declared.fault.Cause.{Cause}
 use Rattle.facts.specs.declared.name.Name.{Name}
 use Rattle.facts.specs.declared.refusal.Refusal.{Refusal}
 use Rattle.facts.specs.declared.term.Term.{Term}
+use Rattle.theory.specs.Premises.{by_current, by_fact, numbered}
 use Rattle.theory.specs.Rules.{Rules}
 use Rattle.theory.specs.declared.inference.Inference.{Inference}
 use Rattle.theory.specs.declared.inference.Outcome.{Outcome}
 use Rattle.theory.specs.declared.inference.Position.{Position}
-use Rattle.equality.specs.declared.steps.Taken.{Taken}
 use Rattle.equality.specs.Terms.{same_name, same_term, argument, replaced}
 
 -- ---- what is kept
@@ -33,47 +35,7 @@ kept_on_telling (Comparison.Greater n m) = Some (Fact.Distinct (Term.Bare n) (Te
 abbrev pub admitted : Valuation → Type 0
 admitted v = Unit {0}
 
--- ---- the checks before a rule, in their order
-
-abbrev pub equality_number : ℕ
-equality_number = 1
-
--- the detail is how many facts there are where one is missing, else 0
-abbrev pub refused : Refusal → ℕ → Outcome
-refused why count = Outcome.Refused (record { refusal = why; detail = count; theory = equality_number })
-
--- a rule goes on with what is found, or is refused
-abbrev pub given : {X : Type 0} → Result X Outcome → (X → Outcome) → Outcome
-given (Ok x) rule = rule x
-given (Err o) rule = o
-
--- a current fact
-abbrev pub current_found : Option Fact → Result Fact Outcome
-current_found None = Err (refused Refusal.NoCurrentFact 0)
-current_found (Some f) = Ok f
-
-abbrev pub needing_current : Option Fact → (Fact → Outcome) → Outcome
-needing_current current rule = given (current_found current) rule
-
--- fact i
-abbrev pub found_among : ℕ → Option Fact → Result Fact Outcome
-found_among count None = Err (refused Refusal.NoSuchFact count)
-found_among count (Some f) = Ok f
-
-abbrev pub fact_found : List Fact → ℕ → Result Fact Outcome
-fact_found fs i = found_among (length fs) (slice_get fs i)
-
--- first a current fact, then fact i
-abbrev pub both_found : Result Fact Outcome → Result Fact Outcome → Result Taken Outcome
-both_found (Ok f) (Ok g) = Ok (record { current = f; fact = g })
-both_found (Ok f) (Err o) = Err o
-both_found (Err o) r = Err o
-
-abbrev pub taken : Option Fact → List Fact → ℕ → Result Taken Outcome
-taken current fs i = both_found (current_found current) (fact_found fs i)
-
-abbrev pub with_fact : Option Fact → List Fact → ℕ → (Fact → Fact → Outcome) → Outcome
-with_fact current fs i rule = given (taken current fs i) (λ t. rule t.current t.fact)
+-- ---- the checks before a rule, in their order; the theory's number is set in refusals at the end
 
 -- the sides of a = b are exchanged if it is turned
 abbrev pub oriented : Bool → Fact → Fact
@@ -82,43 +44,43 @@ oriented turned (Fact.Distinct a b) = Fact.Distinct a b
 oriented turned (Fact.Linear how row) = Fact.Linear how row
 
 -- the fact is a = b
-abbrev pub by_equality : Fact → (Term → Term → Outcome) → Outcome
+abbrev pub by_equality : Fact → (Term → Term → Result Outcome Cause) → Result Outcome Cause
 by_equality (Fact.Equal a b) rule = rule a b
-by_equality (Fact.Distinct a b) rule = refused Refusal.WrongRelation 0
-by_equality (Fact.Linear how row) rule = refused Refusal.WrongRelation 0
+by_equality (Fact.Distinct a b) rule = Err (because Refusal.WrongRelation)
+by_equality (Fact.Linear how row) rule = Err (because Refusal.WrongRelation)
 
 -- the fact is a ≠ b
-abbrev pub by_negation : Fact → (Term → Term → Outcome) → Outcome
-by_negation (Fact.Equal a b) rule = refused Refusal.WrongRelation 0
+abbrev pub by_negation : Fact → (Term → Term → Result Outcome Cause) → Result Outcome Cause
+by_negation (Fact.Equal a b) rule = Err (because Refusal.WrongRelation)
 by_negation (Fact.Distinct a b) rule = rule a b
-by_negation (Fact.Linear how row) rule = refused Refusal.WrongRelation 0
+by_negation (Fact.Linear how row) rule = Err (because Refusal.WrongRelation)
 
 -- ---- the rules, whose conditions are that
 
-abbrev pub fails : Outcome
-fails = refused Refusal.ConditionFails 0
+abbrev pub fails : Cause
+fails = because Refusal.ConditionFails
 
 -- something is so
-abbrev pub provided : Bool → Outcome → Outcome
-provided test outcome = cond test outcome fails
+abbrev pub provided : Bool → Outcome → Result Outcome Cause
+provided test outcome = cond test (Ok outcome) (Err fails)
 
 -- a term is a name, or has an argument
-abbrev pub for_name : Option Name → (Name → Outcome) → Outcome
-for_name None rule = fails
+abbrev pub for_name : Option Name → (Name → Result Outcome Cause) → Result Outcome Cause
+for_name None rule = Err fails
 for_name (Some n) rule = rule n
 
 -- the current fact is l = r
-abbrev pub on_equality : Fact → (Term → Term → Outcome) → Outcome
+abbrev pub on_equality : Fact → (Term → Term → Result Outcome Cause) → Result Outcome Cause
 on_equality (Fact.Equal l r) rule = rule l r
-on_equality (Fact.Distinct l r) rule = fails
-on_equality (Fact.Linear how row) rule = fails
+on_equality (Fact.Distinct l r) rule = Err fails
+on_equality (Fact.Linear how row) rule = Err fails
 
 -- T: by a = b, a current l = a becomes l = b
-abbrev pub transitivity : Term → Term → Fact → Outcome
+abbrev pub transitivity : Term → Term → Fact → Result Outcome Cause
 transitivity a b now = on_equality now (λ l r. provided (same_term r a) (Outcome.Current (Fact.Equal l b)))
 
 -- C: by a = b of two names, an argument a of the current right side becomes b
-abbrev pub congruence : Position → Term → Term → Fact → Outcome
+abbrev pub congruence : Position → Term → Term → Fact → Result Outcome Cause
 congruence p a b now =
     on_equality now (λ l r.
     for_name (bare_name a) (λ n.
@@ -127,32 +89,41 @@ congruence p a b now =
     provided (same_name k n) (Outcome.Current (Fact.Equal l (replaced p m r)))))))
 
 -- N: a ≠ b contradicts a current a = b or b = a
-abbrev pub clash : Term → Term → Fact → Outcome
+abbrev pub clash : Term → Term → Fact → Result Outcome Cause
 clash a b now =
     on_equality now (λ l r.
     provided ((same_term l a && same_term r b) || (same_term l b && same_term r a)) Outcome.Contradiction)
 
 -- X: a current equality of two names is handed on
-abbrev pub propagation : Fact → Outcome
+abbrev pub propagation : Fact → Result Outcome Cause
 propagation now =
-    on_equality now (λ l r. for_name (bare_name l) (λ n. for_name (bare_name r) (λ m. Outcome.Equal n m)))
+    on_equality now (λ l r. for_name (bare_name l) (λ n. for_name (bare_name r) (λ m. Ok (Outcome.Equal n m))))
 
-abbrev pub comes_to : Inference → List Fact → Option Fact → Outcome
-comes_to (Inference.Reflexivity t) fs current = Outcome.Current (Fact.Equal t t)
-comes_to (Inference.Transitivity i turned) fs current =
-    with_fact current fs i (λ now f. by_equality (oriented turned f) (λ a b. transitivity a b now))
-comes_to (Inference.Congruence i p turned) fs current =
-    with_fact current fs i (λ now f. by_equality (oriented turned f) (λ a b. congruence p a b now))
-comes_to (Inference.Clash i) fs current =
-    with_fact current fs i (λ now f. by_negation f (λ a b. clash a b now))
-comes_to Inference.Propagate fs current = needing_current current propagation
-comes_to Inference.Zero fs current = refused Refusal.UnknownInference 0
-comes_to (Inference.Add i factor) fs current = refused Refusal.UnknownInference 0
-comes_to (Inference.Antisymmetry i n m) fs current = refused Refusal.UnknownInference 0
-comes_to Inference.Falsify fs current = refused Refusal.UnknownInference 0
-comes_to Inference.Strengthen fs current = refused Refusal.UnknownInference 0
-comes_to Inference.Cut fs current = refused Refusal.UnknownInference 0
-comes_to Inference.Push fs current = needing_current current (λ now. Outcome.Pushed now)
+-- ---- all rules: those that take a fact ask for the current fact first
+
+abbrev pub inferred : Inference → List Fact → Option Fact → Result Outcome Cause
+inferred (Inference.Reflexivity t) fs current = Ok (Outcome.Current (Fact.Equal t t))
+inferred (Inference.Transitivity i turned) fs current =
+    by_current current (λ now. by_fact fs (slice_get fs i) (λ f. by_equality (oriented turned f) (λ a b. transitivity a b now)))
+inferred (Inference.Congruence i p turned) fs current =
+    by_current current (λ now. by_fact fs (slice_get fs i) (λ f. by_equality (oriented turned f) (λ a b. congruence p a b now)))
+inferred (Inference.Clash i) fs current =
+    by_current current (λ now. by_fact fs (slice_get fs i) (λ f. by_negation f (λ a b. clash a b now)))
+inferred Inference.Propagate fs current = by_current current propagation
+inferred Inference.Zero fs current = Err (because Refusal.UnknownInference)
+inferred (Inference.Add i factor) fs current = Err (because Refusal.UnknownInference)
+inferred (Inference.Antisymmetry i n m) fs current = Err (because Refusal.UnknownInference)
+inferred Inference.Falsify fs current = Err (because Refusal.UnknownInference)
+inferred Inference.Strengthen fs current = Err (because Refusal.UnknownInference)
+inferred Inference.Cut fs current = Err (because Refusal.UnknownInference)
+inferred Inference.Push fs current = by_current current (λ now. Ok (Outcome.Pushed now))
+
+abbrev pub equality_number : ℕ
+equality_number = 1
+
+-- with the theory's number in refusals
+abbrev pub comes_to : Inference → List Fact → Option Fact → Result Outcome Cause
+comes_to i fs current = numbered equality_number (inferred i fs current)
 
 abbrev pub equality_rules : Rules
 equality_rules = record { number = equality_number; keeps = kept; told = kept_on_telling; outcome = comes_to }

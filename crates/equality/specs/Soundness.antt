@@ -1,55 +1,27 @@
 -- What a rule of equality comes to is true where the facts and the current fact are.
-use Rattle.std.specs.Prelude.{◌≡◌, ℕ, Bool, true, false, ◌&&◌, ◌||◌, List, length, get_or, ℤ, IfSome, Some, None, Ok, Option, ◌≢◌, slice_index_or, refl}
-use Rattle.std.proofs.Common.{sym, ap, ◌∙◌, subst, ⊎_elim, arith}
-use Rattle.std.specs.List.{slice_get}
-use Rattle.std.proofs.lemmas.Option.{slice_get-get_or, slice_get_past}
+use Rattle.std.specs.Prelude.{◌≡◌, Bool, true, false, ◌&&◌, ◌||◌, List, ℤ, IfSome, Some, None, Ok, Option, Result, ◌≢◌, refl}
+use Rattle.std.proofs.Common.{sym, ap, ◌∙◌, ⊎_elim, arith}
 use Rattle.std.proofs.lemmas.Int.{ints}
-use Rattle.std.proofs.lemmas.Bool.Decides.{leb_tells, Decides-and, Decides-or}
+use Rattle.std.proofs.lemmas.Bool.Decides.{Decides-and, Decides-or}
 use Rattle.facts.specs.Terms.{bare_name}
 use Rattle.facts.specs.Valuations.{Valuation, True, Compared, term_number}
 use Rattle.facts.specs.declared.fact.Comparison.{Comparison}
 use Rattle.facts.specs.declared.fact.Fact.{Fact}
+use Rattle.facts.specs.declared.fault.Cause.{Cause}
 use Rattle.facts.specs.declared.name.Name.{Name}
 use Rattle.facts.specs.declared.term.Term.{Term}
 use Rattle.theory.specs.Rules.{AllTrue, OutcomeTrue, Sound}
 use Rattle.theory.specs.declared.inference.Inference.{Inference}
 use Rattle.theory.specs.declared.inference.Outcome.{Outcome}
 use Rattle.theory.specs.declared.inference.Position.{Position}
-use Rattle.theory.proofs.Truths.{true_at}
+use Rattle.theory.proofs.Truths.{ComesTrue, current_true, fact_true, numbered_true}
 use Rattle.equality.specs.Terms.{same_name, same_term, argument, replaced}
-use Rattle.equality.specs.Equality.{given, needing_current, both_found, found_among, with_fact, oriented, by_equality, by_negation, provided, for_name, on_equality, transitivity, congruence, clash, propagation, comes_to, kept_on_telling, admitted, equality_rules}
+use Rattle.equality.specs.Equality.{equality_number, inferred, oriented, by_equality, by_negation, provided, for_name, on_equality, transitivity, congruence, clash, propagation, comes_to, kept_on_telling, admitted, equality_rules}
 use Rattle.equality.specs.Same.{name_decided, term_decided}
 
 module _ (v : Valuation) where
   abbrev number_of_name : Name → ℤ
   number_of_name n = v.numerator n.index
-
-  -- ---- the checks before a rule
-
-  found_true : (fs : List Fact) (i : ℕ) (f : Fact) → AllTrue v fs → slice_get fs i ≡ Some f → True v f
-  found_true fs i f all e =
-      ⊎_elim
-      (λ past.
-      let none : slice_get fs i ≡ None = slice_get_past fs i past.1 in
-      let z : ◌≡◌ {A = ℕ} 0 1 = cc in
-      absurd (omega arith))
-      (λ inside.
-      let at : slice_get fs i ≡ Some (slice_index_or fs i f) = slice_get-get_or fs i f inside.1 in
-      let same : get_or fs i f ≡ f = cc in
-      subst (True v) same (true_at v fs i f all inside.1))
-      (leb_tells (length fs) i)
-
-  current_true : (current : Option Fact) (rule : Fact → Outcome) → IfSome current (True v) → ((now : Fact) → True v now → OutcomeTrue v (rule now)) → OutcomeTrue v (needing_current current rule)
-  current_true None rule holds each = tt
-  current_true (Some now) rule holds each = each now holds
-
-  fact_true : (current : Option Fact) (fs : List Fact) (i : ℕ) (rule : Fact → Fact → Outcome) → AllTrue v fs → IfSome current (True v) → ((now f : Fact) → True v now → True v f → OutcomeTrue v (rule now f)) → OutcomeTrue v (with_fact current fs i rule)
-  fact_true None fs i rule all holds each = tt
-  fact_true (Some now) fs i rule all holds each = at (slice_get fs i) (λ f. found_true fs i f all)
-    where
-      at : (o : Option Fact) → ((f : Fact) → o ≡ Some f → True v f) → OutcomeTrue v (given (both_found (Ok now) (found_among (length fs) o)) (λ t. rule t.current t.fact))
-      at None found = tt
-      at (Some f) found = each now f holds (found f refl)
 
   oriented_true : (turned : Bool) (f : Fact) → True v f → True v (oriented turned f)
   oriented_true true (Fact.Equal a b) holds = sym holds
@@ -57,34 +29,34 @@ module _ (v : Valuation) where
   oriented_true turned (Fact.Distinct a b) holds = holds
   oriented_true turned (Fact.Linear how row) holds = holds
 
-  equality_true : (f : Fact) (rule : Term → Term → Outcome) → True v f → ((a b : Term) → term_number v a ≡ term_number v b → OutcomeTrue v (rule a b)) → OutcomeTrue v (by_equality f rule)
+  equality_true : (f : Fact) (rule : Term → Term → Result Outcome Cause) → True v f → ((a b : Term) → term_number v a ≡ term_number v b → ComesTrue v (rule a b)) → ComesTrue v (by_equality f rule)
   equality_true (Fact.Equal a b) rule holds each = each a b holds
   equality_true (Fact.Distinct a b) rule holds each = tt
   equality_true (Fact.Linear how row) rule holds each = tt
 
-  negation_true : (f : Fact) (rule : Term → Term → Outcome) → True v f → ((a b : Term) → (term_number v a ≢ term_number v b) → OutcomeTrue v (rule a b)) → OutcomeTrue v (by_negation f rule)
+  negation_true : (f : Fact) (rule : Term → Term → Result Outcome Cause) → True v f → ((a b : Term) → (term_number v a ≢ term_number v b) → ComesTrue v (rule a b)) → ComesTrue v (by_negation f rule)
   negation_true (Fact.Equal a b) rule holds each = tt
   negation_true (Fact.Distinct a b) rule holds each = each a b holds
   negation_true (Fact.Linear how row) rule holds each = tt
 
   -- ---- the conditions of a rule
 
-  provided_true : (test : Bool) (o : Outcome) → (test ≡ true → OutcomeTrue v o) → OutcomeTrue v (provided test o)
+  provided_true : (test : Bool) (o : Outcome) → (test ≡ true → OutcomeTrue v o) → ComesTrue v (provided test o)
   provided_true true o each = each refl
   provided_true false o each = tt
 
-  name_true : (o : Option Name) (rule : Name → Outcome) → ((n : Name) → o ≡ Some n → OutcomeTrue v (rule n)) → OutcomeTrue v (for_name o rule)
+  name_true : (o : Option Name) (rule : Name → Result Outcome Cause) → ((n : Name) → o ≡ Some n → ComesTrue v (rule n)) → ComesTrue v (for_name o rule)
   name_true None rule each = tt
   name_true (Some n) rule each = each n refl
 
-  on_true : (now : Fact) (rule : Term → Term → Outcome) → True v now → ((l r : Term) → term_number v l ≡ term_number v r → OutcomeTrue v (rule l r)) → OutcomeTrue v (on_equality now rule)
+  on_true : (now : Fact) (rule : Term → Term → Result Outcome Cause) → True v now → ((l r : Term) → term_number v l ≡ term_number v r → ComesTrue v (rule l r)) → ComesTrue v (on_equality now rule)
   on_true (Fact.Equal l r) rule holds each = each l r holds
   on_true (Fact.Distinct l r) rule holds each = tt
   on_true (Fact.Linear how row) rule holds each = tt
 
   -- ---- the rules
 
-  transitivity_true : (a b : Term) (now : Fact) → term_number v a ≡ term_number v b → True v now → OutcomeTrue v (transitivity a b now)
+  transitivity_true : (a b : Term) (now : Fact) → term_number v a ≡ term_number v b → True v now → ComesTrue v (transitivity a b now)
   transitivity_true a b now same holds =
       on_true now _ holds (λ l r current.
       provided_true (same_term r a) _ (λ test.
@@ -92,8 +64,8 @@ module _ (v : Valuation) where
 
   bare_number : (t : Term) (n : Name) → bare_name t ≡ Some n → term_number v t ≡ number_of_name n
   bare_number (Term.Bare k) n e = let same : k ≡ n = cc in ap number_of_name same
-  bare_number (Term.Unary s k) n e = let z : ◌≡◌ {A = ℕ} 0 1 = cc in absurd (omega arith)
-  bare_number (Term.Binary s k j) n e = let z : ◌≡◌ {A = ℕ} 0 1 = cc in absurd (omega arith)
+  bare_number (Term.Unary s k) n e = cc
+  bare_number (Term.Binary s k j) n e = cc
 
   -- an argument that becomes an equal name leaves the term's number
   replaced_number : (p : Position) (t : Term) (k m : Name) → argument p t ≡ Some k → number_of_name k ≡ number_of_name m → term_number v t ≡ term_number v (replaced p m t)
@@ -106,7 +78,7 @@ module _ (v : Valuation) where
   replaced_number Position.Second (Term.Binary s n j) k m e same =
       let is : j ≡ k = cc in ap (λ z. v.binary s.index (number_of_name n) z) (ap number_of_name is ∙ same)
 
-  congruence_true : (p : Position) (a b : Term) (now : Fact) → term_number v a ≡ term_number v b → True v now → OutcomeTrue v (congruence p a b now)
+  congruence_true : (p : Position) (a b : Term) (now : Fact) → term_number v a ≡ term_number v b → True v now → ComesTrue v (congruence p a b now)
   congruence_true p a b now same holds =
       on_true now _ holds (λ l r current.
       name_true (bare_name a) _ (λ n a-is.
@@ -116,7 +88,7 @@ module _ (v : Valuation) where
       current
       ∙ replaced_number p r k m r-has (ap number_of_name ((name_decided k n).0 test) ∙ sym (bare_number a n a-is) ∙ same ∙ bare_number b m b-is))))))
 
-  clash_true : (a b : Term) (now : Fact) → (term_number v a ≢ term_number v b) → True v now → OutcomeTrue v (clash a b now)
+  clash_true : (a b : Term) (now : Fact) → (term_number v a ≢ term_number v b) → True v now → ComesTrue v (clash a b now)
   clash_true a b now apart holds =
       on_true now _ holds (λ l r current.
       provided_true ((same_term l a && same_term r b) || (same_term l b && same_term r a)) Outcome.Contradiction (λ test.
@@ -125,7 +97,7 @@ module _ (v : Valuation) where
       (λ h. apart (ap (term_number v) (sym h.1) ∙ sym current ∙ ap (term_number v) h.0))
       ((Decides-or _ _ (Decides-and _ _ (term_decided l a) (term_decided r b)) (Decides-and _ _ (term_decided l b) (term_decided r a))).0 test)))
 
-  propagation_true : (now : Fact) → True v now → OutcomeTrue v (propagation now)
+  propagation_true : (now : Fact) → True v now → ComesTrue v (propagation now)
   propagation_true now holds =
       on_true now _ holds (λ l r current.
       name_true (bare_name l) _ (λ n l-is.
@@ -134,22 +106,25 @@ module _ (v : Valuation) where
 
   -- ---- an inference, and a telling
 
-  infers : (i : Inference) (fs : List Fact) (current : Option Fact) → AllTrue v fs → IfSome current (True v) → OutcomeTrue v (comes_to i fs current)
-  infers (Inference.Reflexivity t) fs current all holds = refl
-  infers (Inference.Transitivity i turned) fs current all holds =
-      fact_true current fs i _ all holds (λ now f is f-is. equality_true (oriented turned f) _ (oriented_true turned f f-is) (λ a b same. transitivity_true a b now same is))
-  infers (Inference.Congruence i p turned) fs current all holds =
-      fact_true current fs i _ all holds (λ now f is f-is. equality_true (oriented turned f) _ (oriented_true turned f f-is) (λ a b same. congruence_true p a b now same is))
-  infers (Inference.Clash i) fs current all holds =
-      fact_true current fs i _ all holds (λ now f is f-is. negation_true f _ f-is (λ a b apart. clash_true a b now apart is))
-  infers Inference.Propagate fs current all holds = current_true current propagation holds propagation_true
-  infers Inference.Zero fs current all holds = tt
-  infers (Inference.Add i factor) fs current all holds = tt
-  infers (Inference.Antisymmetry i n m) fs current all holds = tt
-  infers Inference.Falsify fs current all holds = tt
-  infers Inference.Strengthen fs current all holds = tt
-  infers Inference.Cut fs current all holds = tt
-  infers Inference.Push fs current all holds = current_true current (λ now. Outcome.Pushed now) holds (λ now is. is)
+  inferred_true : (i : Inference) (fs : List Fact) (current : Option Fact) → AllTrue v fs → IfSome current (True v) → ComesTrue v (inferred i fs current)
+  inferred_true (Inference.Reflexivity t) fs current all holds = refl
+  inferred_true (Inference.Transitivity i turned) fs current all holds =
+      current_true v current _ holds (λ now is. fact_true v fs i _ all (λ f f-is. equality_true (oriented turned f) _ (oriented_true turned f f-is) (λ a b same. transitivity_true a b now same is)))
+  inferred_true (Inference.Congruence i p turned) fs current all holds =
+      current_true v current _ holds (λ now is. fact_true v fs i _ all (λ f f-is. equality_true (oriented turned f) _ (oriented_true turned f f-is) (λ a b same. congruence_true p a b now same is)))
+  inferred_true (Inference.Clash i) fs current all holds =
+      current_true v current _ holds (λ now is. fact_true v fs i _ all (λ f f-is. negation_true f _ f-is (λ a b apart. clash_true a b now apart is)))
+  inferred_true Inference.Propagate fs current all holds = current_true v current propagation holds propagation_true
+  inferred_true Inference.Zero fs current all holds = tt
+  inferred_true (Inference.Add i factor) fs current all holds = tt
+  inferred_true (Inference.Antisymmetry i n m) fs current all holds = tt
+  inferred_true Inference.Falsify fs current all holds = tt
+  inferred_true Inference.Strengthen fs current all holds = tt
+  inferred_true Inference.Cut fs current all holds = tt
+  inferred_true Inference.Push fs current all holds = current_true v current (λ now. Ok (Outcome.Pushed now)) holds (λ now is. is)
+
+  infers : (i : Inference) (fs : List Fact) (current : Option Fact) → AllTrue v fs → IfSome current (True v) → ComesTrue v (comes_to i fs current)
+  infers i fs current all holds = numbered_true v equality_number (inferred i fs current) (inferred_true i fs current all holds)
 
   tells : (k : Comparison) → Compared v k → IfSome (kept_on_telling k) (True v)
   tells (Comparison.Less n m) h = λ e. omega (arith, ints)

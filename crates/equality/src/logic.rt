@@ -1,11 +1,12 @@
 ghost use Rattle.equality.specs.Equality.{equality_rules, admitted};
 ghost use Rattle.equality.specs.Soundness.{equality_sound};
 
-use crate::steps::{
-    NUMBER, clash, congruence, current_fact, premises, propagate, refused, transitivity,
-};
-use facts::{Comparison, Fact, Refusal, Term};
-use theory::{Inference, Logic, Outcome};
+use crate::steps::apply;
+use facts::{Cause, Comparison, Fact, Term};
+use theory::{Inference, Logic, Outcome, Premises};
+
+// The theory's number.
+const NUMBER: u8 = 1;
 
 // The rules of equality, which keeps t = u and t != u.
 #[derive(Clone, Copy)]
@@ -27,49 +28,19 @@ impl Logic for Equality {
     }
 
     fn keeps(&self, fact: &Fact) -> bool {
-        match *fact {
-            Fact::Equal(_, _) | Fact::Distinct(_, _) => true,
-            Fact::Linear(_, _) => false,
-        }
+        matches!(fact, Fact::Equal(_, _) | Fact::Distinct(_, _))
     }
 
     fn told(&self, comparison: Comparison) -> Option<Fact> {
         match comparison {
-            Comparison::Less(n, m) => Some(Fact::Distinct(Term::Bare(n), Term::Bare(m))),
+            Comparison::Less(n, m) | Comparison::Greater(n, m) => {
+                Some(Fact::Distinct(Term::Bare(n), Term::Bare(m)))
+            }
             Comparison::Equal(n, m) => Some(Fact::Equal(Term::Bare(n), Term::Bare(m))),
-            Comparison::Greater(n, m) => Some(Fact::Distinct(Term::Bare(n), Term::Bare(m))),
         }
     }
 
-    fn outcome(&self, inference: Inference, facts: &[Fact], current: &Option<Fact>) -> Outcome {
-        match inference {
-            Inference::Reflexivity(term) => Outcome::Current(Fact::Equal(term, term)),
-            Inference::Transitivity(i, turned) => match premises(current, facts, i) {
-                Ok(taken) => transitivity(&taken, turned),
-                Err(refusal) => refusal,
-            },
-            Inference::Congruence(i, position, turned) => match premises(current, facts, i) {
-                Ok(taken) => congruence(&taken, position, turned),
-                Err(refusal) => refusal,
-            },
-            Inference::Clash(i) => match premises(current, facts, i) {
-                Ok(taken) => clash(&taken),
-                Err(refusal) => refusal,
-            },
-            Inference::Propagate => match current_fact(current) {
-                Ok(now) => propagate(now),
-                Err(refusal) => refusal,
-            },
-            Inference::Push => match current_fact(current) {
-                Ok(now) => Outcome::Pushed(now),
-                Err(refusal) => refusal,
-            },
-            Inference::Zero
-            | Inference::Add(_, _)
-            | Inference::Antisymmetry(_, _, _)
-            | Inference::Falsify
-            | Inference::Strengthen
-            | Inference::Cut => refused(Refusal::UnknownInference, 0),
-        }
+    fn outcome(&self, inference: Inference, premises: Premises) -> Result<Outcome, Cause> {
+        apply(inference, premises).map_err(|cause| cause.by(NUMBER))
     }
 }

@@ -1,148 +1,112 @@
-// What each step comes to, from the current fact and the fact that it takes.
+// What each rule comes to. A refusal does not carry the theory's number yet.
 ghost use Rattle.std.specs.Prelude.{◌≡◌};
-ghost use Rattle.equality.specs.Equality.{refused as refused_by, fails, current_found, fact_found, taken, oriented as oriented_by, by_equality, by_negation, transitivity as extended, congruence as rewritten, clash as opposed, propagation};
+ghost use Rattle.equality.specs.Equality.{oriented as oriented_by, by_equality, by_negation, transitivity as extended, congruence as rewritten, clash as opposed, propagation, inferred};
 
-use crate::terms::{argument, replaced, same_name, same_term};
+use crate::terms::{argument, replaced};
 use facts::{Cause, Fact, Refusal};
-use theory::{Outcome, Position};
-
-// The theory's number.
-pub(crate) const NUMBER: u8 = 1;
-
-// The detail is how many facts there are where one is missing, else 0.
-pub(crate) fn refused(refusal: Refusal, detail: u8) -> Outcome
-    ensures { result ≡ refused_by refusal detail }
-{
-    Outcome::Refused(Cause {
-        refusal,
-        detail,
-        theory: NUMBER,
-    })
-}
-
-fn condition_fails() -> Outcome
-    ensures { result ≡ fails }
-{
-    refused(Refusal::ConditionFails, 0)
-}
-
-// The current fact, if there is one.
-pub(crate) fn current_fact(current: &Option<Fact>) -> Result<Fact, Outcome>
-    ensures { result ≡ current_found current.now }
-{
-    match *current {
-        Some(fact) => Ok(fact),
-        None => Err(refused(Refusal::NoCurrentFact, 0)),
-    }
-}
-
-// The fact with a number, if there are so many.
-fn fact_at(facts: &[Fact], number: u8) -> Result<Fact, Outcome>
-    ensures { result ≡ fact_found facts.now number }
-{
-    let i = usize::from(number);
-    if i < facts.len() {
-        Ok(facts[i])
-    } else {
-        Err(refused(Refusal::NoSuchFact, facts.len() as u8))
-    }
-}
-
-// The facts that a step takes: the current fact, and one by its number.
-#[derive(Clone, Copy)]
-pub(crate) struct Taken {
-    current: Fact,
-    fact: Fact,
-}
-
-// The current fact is looked for first.
-pub(crate) fn premises(current: &Option<Fact>, facts: &[Fact], number: u8) -> Result<Taken, Outcome>
-    ensures { result ≡ taken current.now facts.now number }
-{
-    let current = current_fact(current)?;
-    let fact = fact_at(facts, number)?;
-    Ok(Taken { current, fact })
-}
+use theory::{Inference, Outcome, Position, Premises};
 
 // The fact, with its sides exchanged if it is an equality and turned.
-fn oriented(fact: Fact, turned: bool) -> Fact
-    ensures { result ≡ oriented_by turned fact }
+fn oriented(fact: &Fact, turned: bool) -> Fact
+    ensures { result ≡ oriented_by turned fact.now }
 {
-    match fact {
+    match *fact {
         Fact::Equal(a, b) if turned => Fact::Equal(b, a),
-        _ => fact,
+        fact => fact,
     }
 }
 
-// T: a current l = a becomes l = b by a = b.
-pub(crate) fn transitivity(by: &Taken, turned: bool) -> Outcome
-    ensures { result ≡ by_equality (oriented_by turned by.now.fact) (λ a b. extended a b by.now.current) }
+// T, at the current fact and another: a current l = a becomes l = b by a = b.
+fn transitivity(current: &Fact, fact: &Fact, turned: bool) -> Result<Outcome, Cause>
+    ensures { result ≡ by_equality (oriented_by turned fact.now) (λ a b. extended a b current.now) }
 {
-    let Fact::Equal(a, b) = oriented(by.fact, turned) else {
-        return refused(Refusal::WrongRelation, 0);
+    let Fact::Equal(a, b) = oriented(fact, turned) else {
+        return Err(Refusal::WrongRelation.into());
     };
-    let Fact::Equal(left, right) = by.current else {
-        return condition_fails();
+    let Fact::Equal(left, right) = *current else {
+        return Err(Refusal::ConditionFails.into());
     };
-    if !same_term(right, a) {
-        return condition_fails();
+    if right != a {
+        return Err(Refusal::ConditionFails.into());
     }
-    Outcome::Current(Fact::Equal(left, b))
+    Ok(Outcome::Current(Fact::Equal(left, b)))
 }
 
-// C: an argument a of the current right side becomes b by a = b of two names.
-pub(crate) fn congruence(by: &Taken, position: Position, turned: bool) -> Outcome
-    ensures { result ≡ by_equality (oriented_by turned by.now.fact) (λ a b. rewritten position a b by.now.current) }
+// C, at the current fact and another: an argument a of the current right side becomes b by a = b of
+// two names.
+fn congruence(
+    current: &Fact,
+    fact: &Fact,
+    position: Position,
+    turned: bool,
+) -> Result<Outcome, Cause>
+    ensures { result ≡ by_equality (oriented_by turned fact.now) (λ a b. rewritten position a b current.now) }
 {
-    let Fact::Equal(from, to) = oriented(by.fact, turned) else {
-        return refused(Refusal::WrongRelation, 0);
+    let Fact::Equal(from, to) = oriented(fact, turned) else {
+        return Err(Refusal::WrongRelation.into());
     };
-    let Fact::Equal(left, right) = by.current else {
-        return condition_fails();
+    let Fact::Equal(left, right) = *current else {
+        return Err(Refusal::ConditionFails.into());
     };
-    let Some(a) = from.bare_name() else {
-        return condition_fails();
-    };
-    let Some(b) = to.bare_name() else {
-        return condition_fails();
-    };
-    let Some(name) = argument(right, position) else {
-        return condition_fails();
-    };
-    if !same_name(name, a) {
-        return condition_fails();
+    let a = from.bare_name().ok_or(Refusal::ConditionFails)?;
+    let b = to.bare_name().ok_or(Refusal::ConditionFails)?;
+    if argument(right, position).ok_or(Refusal::ConditionFails)? != a {
+        return Err(Refusal::ConditionFails.into());
     }
-    Outcome::Current(Fact::Equal(left, replaced(right, position, b)))
+    Ok(Outcome::Current(Fact::Equal(left, replaced(right, position, b))))
 }
 
-// N: a current a = b or b = a contradicts a != b.
-pub(crate) fn clash(by: &Taken) -> Outcome
-    ensures { result ≡ by_negation by.now.fact (λ a b. opposed a b by.now.current) }
+// N, at the current fact and another: a current a = b or b = a contradicts a != b.
+#[tactic(auto, using(crate::proofs::Tests::same_test))]
+fn clash(current: &Fact, fact: &Fact) -> Result<Outcome, Cause>
+    ensures { result ≡ by_negation fact.now (λ a b. opposed a b current.now) }
 {
-    let Fact::Distinct(a, b) = by.fact else {
-        return refused(Refusal::WrongRelation, 0);
+    let Fact::Distinct(a, b) = *fact else {
+        return Err(Refusal::WrongRelation.into());
     };
-    let Fact::Equal(left, right) = by.current else {
-        return condition_fails();
+    let Fact::Equal(left, right) = *current else {
+        return Err(Refusal::ConditionFails.into());
     };
-    if same_term(left, a) && same_term(right, b) || same_term(left, b) && same_term(right, a) {
-        return Outcome::Contradiction;
+    let sides = (left, right);
+    if sides == (a, b) || sides == (b, a) {
+        Ok(Outcome::Contradiction)
+    } else {
+        Err(Refusal::ConditionFails.into())
     }
-    condition_fails()
 }
 
-// X: a current equality of two names is handed on.
-pub(crate) fn propagate(current: Fact) -> Outcome
-    ensures { result ≡ propagation current }
+// X, at the current fact: an equality of two names is handed on.
+fn propagate(current: &Fact) -> Result<Outcome, Cause>
+    ensures { result ≡ propagation current.now }
 {
-    let Fact::Equal(left, right) = current else {
-        return condition_fails();
+    let Fact::Equal(left, right) = *current else {
+        return Err(Refusal::ConditionFails.into());
     };
-    let Some(n) = left.bare_name() else {
-        return condition_fails();
-    };
-    let Some(m) = right.bare_name() else {
-        return condition_fails();
-    };
-    Outcome::Equal(n, m)
+    let n = left.bare_name().ok_or(Refusal::ConditionFails)?;
+    let m = right.bare_name().ok_or(Refusal::ConditionFails)?;
+    Ok(Outcome::Equal(n, m))
+}
+
+// What an inference comes to.
+pub(crate) fn apply(inference: Inference, premises: Premises) -> Result<Outcome, Cause>
+    ensures { result ≡ inferred inference premises.entry.facts.now premises.entry.current.now }
+{
+    match inference {
+        Inference::Reflexivity(term) => Ok(Outcome::Current(Fact::Equal(term, term))),
+        Inference::Transitivity(i, turned) => {
+            transitivity(premises.current()?, premises.fact(i)?, turned)
+        }
+        Inference::Congruence(i, position, turned) => {
+            congruence(premises.current()?, premises.fact(i)?, position, turned)
+        }
+        Inference::Clash(i) => clash(premises.current()?, premises.fact(i)?),
+        Inference::Propagate => propagate(premises.current()?),
+        Inference::Push => Ok(Outcome::Pushed(*premises.current()?)),
+        Inference::Zero
+        | Inference::Add(_, _)
+        | Inference::Antisymmetry(_, _, _)
+        | Inference::Falsify
+        | Inference::Strengthen
+        | Inference::Cut => Err(Refusal::UnknownInference.into()),
+    }
 }

@@ -1,3 +1,4 @@
+pub mod Calls
 pub mod Products
 pub mod Quotients
 pub mod Tested

@@ -1,42 +1,38 @@
 -- The content of a list of numbers, found from the first number on.
-use Rattle.std.specs.Prelude.{◌≡◌, ℕ, zero, suc, ◌+◌, ◌*◌, ◌<◌, ◌≤◌, List, length, ℤ, pos, negsuc, ◌≢◌, slice_index_or, unsigned_abs, refl}
-use Rattle.std.proofs.Common.{sym, ap, ◌∙◌, subst, ⊎_elim, mul-zero, arith, below_more}
-use Rattle.std.proofs.lemmas.List.{get_or_past}
+use Rattle.std.specs.Prelude.{◌≡◌, ℕ, zero, suc, ◌*◌, ◌<◌, ◌≤◌, List, [], ◌∷◌, ◌++◌, ℤ, pos, negsuc, ◌≢◌, slice_index_or, unsigned_abs, refl}
+use Rattle.std.proofs.Common.{sym, ap, ◌∙◌, subst, ⊎_elim, mul-zero, arith}
 use Rattle.std.proofs.lemmas.Bool.Decides.{leb_tells}
 use Rattle.facts.specs.Sizes.{AllSized}
 use Rattle.linear.specs.Gcd.{Divides, Greatest}
 use Rattle.linear.specs.Content.{Content, size_at}
 use Rattle.linear.specs.Divisors.{divides_zero, divides_through, divides_both, divisor_positive, divisor_most}
 
--- the content of the first n numbers
-pub record ContentBelow (n : ℕ) (zs : List ℤ) (g : ℕ) : Type 0 where
-  pub each : (k : ℕ) → k < n → Divides g (size_at zs k)
-  pub most : (d : ℕ) → ((k : ℕ) → k < n → Divides d (size_at zs k)) → Divides d g
+-- of no numbers it is 0
+pub content_nothing : Content [] 0
+content_nothing = record { each = λ k. divides_zero 0; most = λ d h. divides_zero d }
 
-pub content_none : (zs : List ℤ) → ContentBelow 0 zs 0
-content_none zs =
-    record { each = λ k h. absurd (omega arith); most = λ d h. divides_zero d }
+-- what divides all numbers of a list and one more divides all of both, and the other way round
+each_of_both : (d : ℕ) (zs : List ℤ) (z : ℤ) → ((k : ℕ) → Divides d (size_at zs k)) → Divides d (unsigned_abs z) → (k : ℕ) → Divides d (size_at (zs ++ z ∷ []) k)
+each_of_both d [] z all last zero = last
+each_of_both d [] z all last (suc k) = divides_zero d
+each_of_both d (x ∷ zs) z all last zero = all zero
+each_of_both d (x ∷ zs) z all last (suc k) = each_of_both d zs z (λ j. all (suc j)) last k
 
-pub content_more : (n : ℕ) (zs : List ℤ) (g h : ℕ) → ContentBelow n zs g → Greatest g (size_at zs n) h → ContentBelow (n + 1) zs h
-content_more n zs g h before last =
+each_before : (d : ℕ) (zs : List ℤ) (z : ℤ) → ((k : ℕ) → Divides d (size_at (zs ++ z ∷ []) k)) → (k : ℕ) → Divides d (size_at zs k)
+each_before d [] z all k = divides_zero d
+each_before d (x ∷ zs) z all zero = all zero
+each_before d (x ∷ zs) z all (suc k) = each_before d zs z (λ j. all (suc j)) k
+
+the_last : (d : ℕ) (zs : List ℤ) (z : ℤ) → ((k : ℕ) → Divides d (size_at (zs ++ z ∷ []) k)) → Divides d (unsigned_abs z)
+the_last d [] z all = all zero
+the_last d (x ∷ zs) z all = the_last d zs z (λ j. all (suc j))
+
+-- one more number
+pub content_append : (zs : List ℤ) (z : ℤ) (g h : ℕ) → Content zs g → Greatest g (unsigned_abs z) h → Content (zs ++ z ∷ []) h
+content_append zs z g h before last =
     record {
-      each = below_more (λ k. Divides h (size_at zs k)) n (λ k below. divides_through h g (size_at zs k) last.left (before.each k below)) last.right;
-      most = λ d all. last.most d (before.most d (λ k below. all k (omega arith))) (all n (omega arith));
-    }
-
--- past the end there is only 0, which each number divides
-past_divides : (d n : ℕ) (zs : List ℤ) → length zs ≤ n → ((k : ℕ) → k < n → Divides d (size_at zs k)) → (k : ℕ) → Divides d (size_at zs k)
-past_divides d n zs end below k =
-    ⊎_elim
-    (λ h. subst (λ z. Divides d (unsigned_abs z)) (sym (get_or_past zs k (pos 0) (omega (arith, h.1)))) (divides_zero d))
-    (λ h. below k h.1)
-    (leb_tells n k)
-
-pub content_all : (n : ℕ) (zs : List ℤ) (g : ℕ) → length zs ≤ n → ContentBelow n zs g → Content zs g
-content_all n zs g end h =
-    record {
-      each = past_divides g n zs end h.each;
-      most = λ d all. h.most d (λ k _. all k);
+      each = each_of_both h zs z (λ k. divides_through h g (size_at zs k) last.left (before.each k)) last.right;
+      most = λ d all. last.most d (before.most d (each_before d zs z all)) (the_last d zs z all);
     }
 
 -- the laws say which number it is

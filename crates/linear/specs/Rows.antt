@@ -1,10 +1,10 @@
 -- Rows by their numbers.
-use Rattle.std.specs.Prelude.{◌≡◌, ℕ, ◌<◌, List, map, length, ℤ, pos, Some, None, Option, slice_index_or, unsigned_abs}
+use Rattle.std.specs.Prelude.{◌≡◌, ℕ, ◌<◌, ◌≤◌, List, map, length, ℤ, pos, Some, None, Option, slice_index_or, unsigned_abs}
 use Rattle.std.proofs.Common.{sym, subst, ⊎_elim, arith}
+use Rattle.std.proofs.lemmas.List.{get_or_past}
 use Rattle.std.proofs.lemmas.List.FromFn.{get_or-map-range_with_len, length-map-range_with_len}
 use Rattle.std.proofs.lemmas.Bool.Decides.{eqb_tells, leb_tells}
 use Rattle.std.specs.List.{range_with_len}
-use Rattle.facts.proofs.Sizes.{all_sized_below}
 use Rattle.facts.specs.Sizes.{Sized, AllSized, row_limit}
 use Rattle.facts.specs.declared.row.Row.{Row}
 use Rattle.linear.specs.Deciding.{is_each_below}
@@ -18,6 +18,14 @@ pub record Fits (constant : ℤ) (coefficients : List ℤ) : Type 0 where
   pub long : length coefficients ≡ 32
   pub sized : Sized row_limit constant
   pub all_sized : AllSized row_limit coefficients
+
+-- past a list's end there is only 0
+all_sized_below : (limit : ℕ) (zs : List ℤ) (n : ℕ) → length zs ≤ n → ((k : ℕ) → k < n → Sized limit (slice_index_or zs k (pos 0))) → AllSized limit zs
+all_sized_below limit zs n end below k =
+    ⊎_elim
+    (λ h. subst (λ z. Sized limit z) (sym (get_or_past zs k (pos 0) (omega (arith, h.1)))) (omega arith))
+    (λ h. below k h.1)
+    (leb_tells n k)
 
 length-listed : (f : ℕ → ℤ) → length (listed f) ≡ 32
 unfolding listed

@@ -1,28 +1,27 @@
 -- The rules are sound, over fractions and over whole numbers.
-use Rattle.std.specs.Prelude.{◌≡◌, ℕ, zero, suc, ◌≤◌, Bool, true, false, cond, T, List, length, get_or, ℤ, pos, negsuc, ◌+ℤ◌, ◌-ℤ◌, ◌*ℤ◌, ◌≤ℤ◌, ◌<ℤ◌, IfSome, Some, None, Option, ◌≢◌, int_lt, slice_index_or}
+use Rattle.std.specs.Prelude.{◌≡◌, ℕ, zero, suc, ◌≤◌, Bool, true, false, cond, T, List, get_or, ℤ, pos, negsuc, ◌+ℤ◌, ◌-ℤ◌, ◌*ℤ◌, ◌≤ℤ◌, ◌<ℤ◌, IfSome, Some, None, Option, Result, ◌≢◌, int_lt}
 use Rattle.std.proofs.Math.Path.{refl, ap}
 use Rattle.std.proofs.Common.{sym, ◌∙◌, subst, ⊎_elim, zero-mul, suc-mul, arith}
 use Rattle.std.proofs.Math.IntN.{+ℤ_idl, +ℤ_idr, zero-*ℤ, *ℤ-zero, *ℤ_comm}
-use Rattle.std.proofs.lemmas.Option.{slice_get-get_or, slice_get_past}
 use Rattle.std.proofs.lemmas.Int.{ints}
-use Rattle.std.proofs.lemmas.Bool.Decides.{eqb_tells, leb_tells}
-use Rattle.std.specs.List.{slice_get}
+use Rattle.std.proofs.lemmas.Bool.Decides.{eqb_tells}
 use Rattle.facts.proofs.Integers.{add_times, times_add, minus_times, times_assoc, one_times, sum_same, sum_zero, sum_add, sum_times, sum_one}
 use Rattle.facts.specs.Valuations.{Valuation, sum_below, row_number, Compares, True, Compared}
 use Rattle.facts.specs.declared.fact.Comparison.{Comparison}
 use Rattle.facts.specs.declared.fact.Fact.{Fact}
 use Rattle.facts.specs.declared.fact.Relation.{Relation}
+use Rattle.facts.specs.declared.fault.Cause.{Cause}
 use Rattle.facts.specs.declared.name.Name.{Name}
 use Rattle.facts.specs.declared.row.Row.{Row}
-use Rattle.theory.proofs.Truths.{true_at}
-use Rattle.theory.specs.Rules.{Sound, AllTrue, OutcomeTrue}
+use Rattle.theory.proofs.Truths.{ComesTrue, current_true, fact_true, numbered_true}
+use Rattle.theory.specs.Rules.{Sound, AllTrue}
 use Rattle.theory.specs.declared.inference.Inference.{Inference}
 use Rattle.theory.specs.declared.inference.Outcome.{Outcome}
 use Rattle.linear.specs.Cut.{Nameless}
 use Rattle.linear.specs.Deciding.{holds}
 use Rattle.linear.specs.Forms.{Difference, is_difference, does_contradict, difference_at, difference_row, one_at, sum_row, lowered, zero_row, cut_row}
 use Rattle.linear.specs.Rows.{listed, row_with, coefficient, get_or-listed}
-use Rattle.linear.specs.Rules.{admitted, row_rules, outcome, told, by_current, by_fact, whole_only, becomes, may_multiply, joined, add_to, added, at_least, above, both_ways, falsified, strengthened, cut_becomes, divided}
+use Rattle.linear.specs.Rules.{admitted, row_rules, theory_number, inferred, told, whole_only, becomes, may_multiply, joined, add_to, added, at_least, above, both_ways, falsified, strengthened, cut_becomes, divided}
 use Rattle.linear.specs.declared.domain.Domain.{Domain}
 use Rattle.linear.specs.CutRows.{cut_row_keeps}
 use Rattle.linear.specs.Floors.{factor_keeps}
@@ -148,36 +147,18 @@ module _ (v : Valuation) where
 
   -- ---- the rules
 
-  becomes_true : (d : Domain) (how : Relation) (o : Option Row) → ((r : Row) → o ≡ Some r → Compares how (row_number v r)) → OutcomeTrue v (becomes d how o)
-  becomes_true d how None h = tt
-  becomes_true d how (Some r) h = h r refl
+  becomes_true : (how : Relation) (o : Option Row) → ((r : Row) → o ≡ Some r → Compares how (row_number v r)) → ComesTrue v (becomes how o)
+  becomes_true how None h = tt
+  becomes_true how (Some r) h = h r refl
 
-  by_test : (b : Bool) (x y : Outcome) → (b ≡ true → OutcomeTrue v x) → (b ≡ false → OutcomeTrue v y) → OutcomeTrue v (cond b x y)
+  by_test : (b : Bool) (x y : Result Outcome Cause) → (b ≡ true → ComesTrue v x) → (b ≡ false → ComesTrue v y) → ComesTrue v (cond b x y)
   by_test true x y f g = f refl
   by_test false x y f g = g refl
 
-  by_decision : {P : Type 0} (d : Dec P) (x y : Outcome) → (P → OutcomeTrue v x) → OutcomeTrue v y → OutcomeTrue v (cond (holds d) x y)
+  by_decision : {P : Type 0} (d : Dec P) (x y : Result Outcome Cause) → (P → ComesTrue v x) → ComesTrue v y → ComesTrue v (cond (holds d) x y)
   unfolding holds
   by_decision (yes p) x y f g = f p
   by_decision (no other) x y f g = g
-
-  by_current_true : (d : Domain) (o : Option Fact) (f : Fact → Outcome) → IfSome o (True v) → ((x : Fact) → True v x → OutcomeTrue v (f x)) → OutcomeTrue v (by_current d o f)
-  by_current_true d None f h each = tt
-  by_current_true d (Some x) f h each = each x h
-
-  found_true : (fs : List Fact) (i : ℕ) (x : Fact) → AllTrue v fs → slice_get fs i ≡ Some x → True v x
-  found_true fs i x all e =
-      ⊎_elim
-      (λ past. let none : slice_get fs i ≡ None = slice_get_past fs i past.1 in let z : ◌≡◌ {A = ℕ} 0 1 = cc in absurd (omega arith))
-      (λ within.
-      let at : slice_get fs i ≡ Some (slice_index_or fs i x) = slice_get-get_or fs i x within.1 in
-      let same : get_or fs i x ≡ x = cc in
-      subst (λ f. True v f) same (true_at v fs i x all within.1))
-      (leb_tells (length fs) i)
-
-  by_fact_true : (d : Domain) (fs : List Fact) (o : Option Fact) (f : Fact → Outcome) → ((x : Fact) → o ≡ Some x → OutcomeTrue v (f x)) → OutcomeTrue v (by_fact d fs o f)
-  by_fact_true d fs None f each = tt
-  by_fact_true d fs (Some x) f each = each x refl
 
   positive_factor : (c : ℤ) → int_lt (pos 0) c ≡ true → pos 0 <ℤ c
   positive_factor c e = record { lt = subst T (sym e) tt }
@@ -194,9 +175,9 @@ module _ (v : Valuation) where
   joined_true Relation.Positive Relation.Zero a b c inequality h e i =
       let none : c *ℤ b ≡ pos 0 = ap (λ z. c *ℤ z) i ∙ *ℤ-zero c in omega (arith, ints)
 
-  sum_true : (d : Domain) (c : ℤ) (now how : Relation) (a b : Row) → (now ≢ Relation.Zero) → Compares now (row_number v a) → may_multiply how c ≡ true → Compares how (row_number v b) → OutcomeTrue v (becomes d (joined now how) (sum_row a c b))
-  sum_true d c now how a b inequality h e i =
-      becomes_true d (joined now how) (sum_row a c b)
+  sum_true : (c : ℤ) (now how : Relation) (a b : Row) → (now ≢ Relation.Zero) → Compares now (row_number v a) → may_multiply how c ≡ true → Compares how (row_number v b) → ComesTrue v (becomes (joined now how) (sum_row a c b))
+  sum_true c now how a b inequality h e i =
+      becomes_true (joined now how) (sum_row a c b)
       (λ r made. subst (Compares (joined now how)) (sym (sum_number a b r c made)) (joined_true now how (row_number v a) (row_number v b) c inequality h e i))
 
   not_zero_at_least : Relation.NonNegative ≡ Relation.Zero → ⊥
@@ -205,18 +186,18 @@ module _ (v : Valuation) where
   not_zero_above : Relation.Positive ≡ Relation.Zero → ⊥
   not_zero_above e = let z : ◌≡◌ {A = ℕ} 0 1 = cc in omega arith
 
-  add_to_true : (d : Domain) (c : ℤ) (current : Fact) (how : Relation) (b : Row) → True v current → may_multiply how c ≡ true → Compares how (row_number v b) → OutcomeTrue v (add_to d c current how b)
-  add_to_true d c (Fact.Equal t u) how b h e i = tt
-  add_to_true d c (Fact.Distinct t u) how b h e i = tt
-  add_to_true d c (Fact.Linear Relation.Zero a) how b h e i = tt
-  add_to_true d c (Fact.Linear Relation.NonNegative a) how b h e i = sum_true d c Relation.NonNegative how a b not_zero_at_least h e i
-  add_to_true d c (Fact.Linear Relation.Positive a) how b h e i = sum_true d c Relation.Positive how a b not_zero_above h e i
+  add_to_true : (c : ℤ) (current : Fact) (how : Relation) (b : Row) → True v current → may_multiply how c ≡ true → Compares how (row_number v b) → ComesTrue v (add_to c current how b)
+  add_to_true c (Fact.Equal t u) how b h e i = tt
+  add_to_true c (Fact.Distinct t u) how b h e i = tt
+  add_to_true c (Fact.Linear Relation.Zero a) how b h e i = tt
+  add_to_true c (Fact.Linear Relation.NonNegative a) how b h e i = sum_true c Relation.NonNegative how a b not_zero_at_least h e i
+  add_to_true c (Fact.Linear Relation.Positive a) how b h e i = sum_true c Relation.Positive how a b not_zero_above h e i
 
-  pub added_true : (d : Domain) (c : ℤ) (current fact : Fact) → True v current → True v fact → OutcomeTrue v (added d c current fact)
-  added_true d c current (Fact.Equal t u) h i = tt
-  added_true d c current (Fact.Distinct t u) h i = tt
-  added_true d c current (Fact.Linear how b) h i =
-      by_test (may_multiply how c) _ _ (λ e. add_to_true d c current how b h e i) (λ _. tt)
+  pub added_true : (c : ℤ) (current fact : Fact) → True v current → True v fact → ComesTrue v (added c current fact)
+  added_true c current (Fact.Equal t u) h i = tt
+  added_true c current (Fact.Distinct t u) h i = tt
+  added_true c current (Fact.Linear how b) h i =
+      by_test (may_multiply how c) _ _ (λ e. add_to_true c current how b h e i) (λ _. tt)
 
   -- Q
   row_at_least : (f : Fact) (r : Row) → True v f → at_least f ≡ Some r → pos 0 ≤ℤ row_number v r
@@ -238,41 +219,41 @@ module _ (v : Valuation) where
       let low : pos 0 ≤ℤ (value n -ℤ value m) = factor_at_least (coefficient r n.index) (value n -ℤ value m) d.positive (subst (λ z. pos 0 ≤ℤ z) (multiple_number r n m d) h) in
       omega (arith, ints)
 
-  pub both_ways_true : (d : Domain) (n m : Name) (a b : Option Row) → ((r : Row) → a ≡ Some r → pos 0 ≤ℤ row_number v r) → ((r : Row) → b ≡ Some r → pos 0 ≤ℤ row_number v r) → OutcomeTrue v (both_ways d n m a b)
-  both_ways_true d n m None None h i = tt
-  both_ways_true d n m (Some a) None h i = tt
-  both_ways_true d n m None (Some b) h i = tt
-  both_ways_true d n m (Some a) (Some b) h i =
+  pub both_ways_true : (n m : Name) (a b : Option Row) → ((r : Row) → a ≡ Some r → pos 0 ≤ℤ row_number v r) → ((r : Row) → b ≡ Some r → pos 0 ≤ℤ row_number v r) → ComesTrue v (both_ways n m a b)
+  both_ways_true n m None None h i = tt
+  both_ways_true n m (Some a) None h i = tt
+  both_ways_true n m None (Some b) h i = tt
+  both_ways_true n m (Some a) (Some b) h i =
       by_decision (is_difference a n m) _ _
       (λ x. by_decision (is_difference b m n) _ _ (λ y. omega (arith, ints, not_below a n m x (h a refl), not_below b m n y (i b refl))) tt)
       tt
 
   -- F
-  pub falsified_true : (d : Domain) (current : Fact) → True v current → OutcomeTrue v (falsified d current)
-  falsified_true d (Fact.Equal t u) h = tt
-  falsified_true d (Fact.Distinct t u) h = tt
-  falsified_true d (Fact.Linear how r) h =
+  pub falsified_true : (current : Fact) → True v current → ComesTrue v (falsified current)
+  falsified_true (Fact.Equal t u) h = tt
+  falsified_true (Fact.Distinct t u) h = tt
+  falsified_true (Fact.Linear how r) h =
       by_decision (does_contradict how r) _ _
       (λ c. c.fails (unscaled how r.constant v.denominator v.positive (subst (Compares how) (nameless_number r c.nameless) h)))
       tt
 
   -- I
-  pub strengthened_true : (d : Domain) (o : Option Row) → v.denominator ≡ 1 → ((r : Row) → o ≡ Some r → pos 0 <ℤ row_number v r) → OutcomeTrue v (strengthened d o)
-  strengthened_true d None whole h = tt
-  strengthened_true d (Some r) whole h =
-      becomes_true d Relation.NonNegative (lowered r)
+  pub strengthened_true : (o : Option Row) → v.denominator ≡ 1 → ((r : Row) → o ≡ Some r → pos 0 <ℤ row_number v r) → ComesTrue v (strengthened o)
+  strengthened_true None whole h = tt
+  strengthened_true (Some r) whole h =
+      becomes_true Relation.NonNegative (lowered r)
       (λ s made. subst (λ z. pos 0 ≤ℤ z) (sym (lowered_number r s made)) (let above : pos 0 <ℤ row_number v r = h r refl in omega (arith, ints)))
 
   -- U
-  cut_becomes_true : (d : Domain) (o : Option Row) → ((r : Row) → o ≡ Some r → pos 0 ≤ℤ row_number v r) → OutcomeTrue v (cut_becomes d o)
-  cut_becomes_true d None h = tt
-  cut_becomes_true d (Some r) h = h r refl
+  cut_becomes_true : (o : Option Row) → ((r : Row) → o ≡ Some r → pos 0 ≤ℤ row_number v r) → ComesTrue v (cut_becomes o)
+  cut_becomes_true None h = tt
+  cut_becomes_true (Some r) h = h r refl
 
-  pub divided_true : (d : Domain) (o : Option Row) → v.denominator ≡ 1 → ((r : Row) → o ≡ Some r → pos 0 ≤ℤ row_number v r) → OutcomeTrue v (divided d o)
-  divided_true d None whole h = tt
-  divided_true d (Some r) whole h = cut_becomes_true d (cut_row r) (λ s made. cut_row_keeps r s made v whole (h r refl))
+  pub divided_true : (o : Option Row) → v.denominator ≡ 1 → ((r : Row) → o ≡ Some r → pos 0 ≤ℤ row_number v r) → ComesTrue v (divided o)
+  divided_true None whole h = tt
+  divided_true (Some r) whole h = cut_becomes_true (cut_row r) (λ s made. cut_row_keeps r s made v whole (h r refl))
 
-  whole_only_true : (d : Domain) (o : Outcome) → admitted d v → (v.denominator ≡ 1 → OutcomeTrue v o) → OutcomeTrue v (whole_only d o)
+  whole_only_true : (d : Domain) (o : Result Outcome Cause) → admitted d v → (v.denominator ≡ 1 → ComesTrue v o) → ComesTrue v (whole_only d o)
   whole_only_true Domain.Fractions o admits h = tt
   whole_only_true Domain.Whole o admits h = h admits
 
@@ -285,27 +266,27 @@ module _ (v : Valuation) where
       ∙ +ℤ_idl (weighed (λ k. pos 0))
       ∙ sum_zero 32 _ (λ k _. zero-*ℤ (v.numerator k))
 
-  infers : (d : Domain) → admitted d v → (i : Inference) (fs : List Fact) (current : Option Fact) → AllTrue v fs → IfSome current (True v) → OutcomeTrue v (outcome d i fs current)
-  infers d admits (Inference.Reflexivity t) fs current all h = tt
-  infers d admits (Inference.Transitivity i turned) fs current all h = tt
-  infers d admits (Inference.Congruence i at turned) fs current all h = tt
-  infers d admits (Inference.Clash i) fs current all h = tt
-  infers d admits Inference.Propagate fs current all h = tt
-  infers d admits Inference.Zero fs current all h = subst (λ z. pos 0 ≤ℤ z) (sym zero_number) (omega (arith, ints))
-  infers d admits (Inference.Add i c) fs current all h =
-      by_current_true d current _ h
-      (λ x true-x. by_fact_true d fs (slice_get fs i) _ (λ y e. added_true d c.value x y true-x (found_true fs i y all e)))
-  infers d admits (Inference.Antisymmetry i n m) fs current all h =
-      by_current_true d current _ h
-      (λ x true-x. by_fact_true d fs (slice_get fs i) _ (λ y e. both_ways_true d n m (at_least x) (at_least y) (λ r at. row_at_least x r true-x at) (λ r at. row_at_least y r (found_true fs i y all e) at)))
-  infers d admits Inference.Falsify fs current all h = by_current_true d current _ h (falsified_true d)
-  infers d admits Inference.Strengthen fs current all h =
+  inferred_true : (d : Domain) → admitted d v → (i : Inference) (fs : List Fact) (current : Option Fact) → AllTrue v fs → IfSome current (True v) → ComesTrue v (inferred d i fs current)
+  inferred_true d admits (Inference.Reflexivity t) fs current all h = tt
+  inferred_true d admits (Inference.Transitivity i turned) fs current all h = tt
+  inferred_true d admits (Inference.Congruence i at turned) fs current all h = tt
+  inferred_true d admits (Inference.Clash i) fs current all h = tt
+  inferred_true d admits Inference.Propagate fs current all h = tt
+  inferred_true d admits Inference.Zero fs current all h = subst (λ z. pos 0 ≤ℤ z) (sym zero_number) (omega (arith, ints))
+  inferred_true d admits (Inference.Add i c) fs current all h =
+      current_true v current _ h
+      (λ x true-x. fact_true v fs i _ all (λ y true-y. added_true c.value x y true-x true-y))
+  inferred_true d admits (Inference.Antisymmetry i n m) fs current all h =
+      current_true v current _ h
+      (λ x true-x. fact_true v fs i _ all (λ y true-y. both_ways_true n m (at_least x) (at_least y) (λ r at. row_at_least x r true-x at) (λ r at. row_at_least y r true-y at)))
+  inferred_true d admits Inference.Falsify fs current all h = current_true v current _ h falsified_true
+  inferred_true d admits Inference.Strengthen fs current all h =
       whole_only_true d _ admits
-      (λ whole. by_current_true d current _ h (λ x true-x. strengthened_true d (above x) whole (λ r at. row_above x r true-x at)))
-  infers d admits Inference.Cut fs current all h =
+      (λ whole. current_true v current _ h (λ x true-x. strengthened_true (above x) whole (λ r at. row_above x r true-x at)))
+  inferred_true d admits Inference.Cut fs current all h =
       whole_only_true d _ admits
-      (λ whole. by_current_true d current _ h (λ x true-x. divided_true d (at_least x) whole (λ r at. row_at_least x r true-x at)))
-  infers d admits Inference.Push fs current all h = by_current_true d current _ h (λ x true-x. true-x)
+      (λ whole. current_true v current _ h (λ x true-x. divided_true (at_least x) whole (λ r at. row_at_least x r true-x at)))
+  inferred_true d admits Inference.Push fs current all h = current_true v current _ h (λ x true-x. true-x)
 
   -- ---- tellings
 
@@ -318,6 +299,6 @@ module _ (v : Valuation) where
 pub row_sound : (d : Domain) → Sound (admitted d) (row_rules d)
 row_sound d =
     record {
-      infers = λ v admits i fs current all h. infers v d admits i fs current all h;
+      infers = λ v admits i fs current all h. numbered_true v (theory_number d) (inferred d i fs current) (inferred_true v d admits i fs current all h);
       tells = λ v k h. told_true v k h;
     }

@@ -6,9 +6,8 @@ use crate::gcd::gcd;
 pub(crate) fn content(coefficients: &[i64; 32]) -> u64
     ensures { Content coefficients.now result }
 {
-    let mut divisor = 0;
-    for i in 0..32 {
-        divisor = gcd(divisor, coefficients[i].unsigned_abs());
-    }
-    divisor
+    coefficients.iter().fold(
+        0,
+        |divisor, coefficient| gcd(divisor, coefficient.unsigned_abs()),
+    )
 }

@@ -1,22 +1,27 @@
-ghost use Rattle.std.specs.Prelude.{◌≡◌, pos, ◌≤ℤ◌};
+ghost use Rattle.std.specs.Prelude.{◌≡◌, ℤ, pos, ◌≤ℤ◌};
 ghost use Rattle.linear.specs.Cut.{Cut, Keeps, Quotients};
+ghost use Rattle.linear.specs.Division.{Floored};
 ghost use Rattle.linear.specs.Forms.{cut_row};
 
 use crate::content::content;
 use crate::division::floor_div;
 use facts::Row;
+use std::array;
 
-// Each number's quotient, rounded down.
+// The quotient of a number, rounded down.
+fn quotient(number: i64, by: i64) -> i64
+    requires { pos 1 ≤ℤ by }
+    ensures { (rest : ℤ) × Floored number by result rest }
+{
+    floor_div(number, by).0
+}
+
+// Each number's quotient.
 fn quotients(numbers: &[i64; 32], by: i64) -> [i64; 32]
     requires { pos 1 ≤ℤ by }
     ensures { Quotients numbers.now by result }
 {
-    let mut quotients = [0; 32];
-    for i in 0..32 {
-        let (quotient, _) = floor_div(numbers[i], by);
-        quotients[i] = quotient;
-    }
-    quotients
+    array::from_fn(|k| quotient(numbers[k], by))
 }
 
 // The row divided by the content of its coefficients, its constant rounded down; none if no name
@@ -27,11 +32,12 @@ pub(crate) fn cut(row: &Row) -> Option<Row>
     ensures sound { Keeps row.now result }
 {
     let coefficients = row.coefficients();
-    let divisor = content(coefficients);
+    let divisor = i64::try_from(content(coefficients)).unwrap();
     if divisor == 0 {
         return None;
     }
-    let by = divisor as i64;
-    let (constant, _) = floor_div(row.constant(), by);
-    Row::new(constant, quotients(coefficients, by))
+    Row::new(
+        quotient(row.constant(), divisor),
+        quotients(coefficients, divisor),
+    )
 }

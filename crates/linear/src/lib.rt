@@ -6,12 +6,10 @@ mod cut;
 mod difference;
 mod division;
 mod domain;
-mod fractions;
 mod gcd;
 mod question;
+mod rows;
 mod rule;
 mod sum;
-mod whole;
 
-pub use fractions::Fractions;
-pub use whole::Whole;
+pub use rows::{Fractions, Rows, Whole};

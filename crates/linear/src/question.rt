@@ -3,7 +3,7 @@ ghost use Rattle.facts.specs.Valuations.{Compares};
 ghost use Rattle.linear.specs.Cut.{Nameless};
 ghost use Rattle.linear.specs.Deciding.{holds};
 ghost use Rattle.linear.specs.Forms.{does_contradict};
-ghost use Rattle.linear.specs.Rules.{may_multiply, joined, at_least, above, keeps};
+ghost use Rattle.linear.specs.Rules.{may_multiply, joined, row_that, keeps};
 
 use facts::{Fact, Relation, Row};
 use theory::Factor;
@@ -12,13 +12,9 @@ use theory::Factor;
 fn is_nameless(row: &Row) -> bool
     ensures { Decides result (Nameless row.now) }
 {
-    let coefficients = row.coefficients();
-    for i in 0..32 {
-        if coefficients[i] != 0 {
-            return false;
-        }
-    }
-    true
+    row.coefficients()
+        .iter()
+        .all(|coefficient| *coefficient == 0)
 }
 
 // Whether a number compares so with 0.
@@ -36,10 +32,7 @@ fn compares(how: Relation, number: i64) -> bool
 pub(crate) fn contradicts(how: Relation, row: &Row) -> bool
     ensures { result ≡ holds (does_contradict how row.now) }
 {
-    if !is_nameless(row) {
-        return false;
-    }
-    !compares(how, row.constant())
+    is_nameless(row) && !compares(how, row.constant())
 }
 
 // Whether a row that compares so with 0 may be multiplied by the factor.
@@ -62,29 +55,13 @@ pub(crate) fn join(relation: Relation, how: Relation) -> Relation
     }
 }
 
-// The row of a fact row >= 0.
-pub(crate) fn row_at_least(fact: &Fact) -> Option<&Row>
-    ensures { MatchOption result (at_least fact.now ≡ None) (λ x. at_least fact.now ≡ Some x.now) }
+// The row of a fact that says that it compares so with 0.
+pub(crate) fn row_that(how: Relation, fact: &Fact) -> Option<&Row>
+    ensures { MatchOption result (row_that how fact.now ≡ None) (λ x. row_that how fact.now ≡ Some x.now) }
 {
-    let Fact::Linear(how, row) = fact else {
-        return None;
-    };
-    match *how {
-        Relation::NonNegative => Some(row),
-        Relation::Positive | Relation::Zero => None,
-    }
-}
-
-// The row of a fact row > 0.
-pub(crate) fn row_above(fact: &Fact) -> Option<&Row>
-    ensures { MatchOption result (above fact.now ≡ None) (λ x. above fact.now ≡ Some x.now) }
-{
-    let Fact::Linear(how, row) = fact else {
-        return None;
-    };
-    match *how {
-        Relation::Positive => Some(row),
-        Relation::NonNegative | Relation::Zero => None,
+    match fact {
+        Fact::Linear(relation, row) if *relation == how => Some(row),
+        _ => None,
     }
 }
 
@@ -92,8 +69,5 @@ pub(crate) fn row_above(fact: &Fact) -> Option<&Row>
 pub(crate) fn is_linear(fact: &Fact) -> bool
     ensures { result ≡ keeps fact.now }
 {
-    match *fact {
-        Fact::Linear(_, _) => true,
-        Fact::Equal(_, _) | Fact::Distinct(_, _) => false,
-    }
+    matches!(fact, Fact::Linear(_, _))
 }

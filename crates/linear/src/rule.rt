@@ -1,254 +1,111 @@
-ghost use Rattle.std.specs.Prelude.{◌≡◌, ◌<◌, ◌≤◌, length, Some, None, MatchOption};
-ghost use Rattle.std.specs.List.{slice_get};
-ghost use Rattle.linear.specs.Rules.{refused, no_such_fact, becomes, add_to, added, both_ways, at_least, above, falsified, strengthened, divided, by_current, by_fact, whole_only, told, outcome};
+ghost use Rattle.std.specs.Prelude.{◌≡◌};
+ghost use Rattle.facts.specs.declared.refusal.Refusal.{Refusal};
+ghost use Rattle.linear.specs.Rules.{becomes, added, both_ways, at_least, above, falsified, strengthened, divided, inferred, told, outcome};
 
 use crate::cut::cut;
 use crate::difference::{difference, is_difference};
 use crate::domain::Domain;
-use crate::question::{contradicts, join, may_multiply, row_above, row_at_least};
+use crate::question::{contradicts, join, may_multiply, row_that};
 use crate::sum::{lower, sum, zero};
 use facts::{Cause, Comparison, Fact, Name, Refusal, Relation, Row};
-use theory::{Factor, Inference, Outcome};
-
-// A refusal of this theory.
-fn refuse(domain: Domain, refusal: Refusal) -> Outcome
-    ensures { result ≡ refused domain refusal }
-{
-    Outcome::Refused(Cause {
-        refusal,
-        detail: 0,
-        theory: domain.number(),
-    })
-}
-
-// The refusal that says how many facts there are.
-fn refuse_index(domain: Domain, facts: &[Fact]) -> Outcome
-    requires { length facts.now ≤ 255 }
-    ensures { result ≡ no_such_fact domain facts.now }
-{
-    Outcome::Refused(Cause {
-        refusal: Refusal::NoSuchFact,
-        detail: facts.len() as u8,
-        theory: domain.number(),
-    })
-}
-
-// The fact with an index.
-fn fact_at(facts: &[Fact], index: u8) -> Option<&Fact>
-    ensures which { MatchOption result (slice_get facts.now index ≡ None) (λ x. slice_get facts.now index ≡ Some x.now) }
-    ensures missing { MatchOption result (length facts.now ≤ index) (λ _. index < length facts.now) }
-{
-    let i = index as usize;
-    if i < facts.len() {
-        Some(&facts[i])
-    } else {
-        None
-    }
-}
+use theory::{Factor, Inference, Outcome, Premises};
 
 // The row becomes current, if there is one.
-fn make_current(domain: Domain, how: Relation, row: Option<Row>) -> Outcome
-    ensures { result ≡ becomes domain how row }
+fn make_current(how: Relation, row: Option<Row>) -> Result<Outcome, Cause>
+    ensures { result ≡ becomes how row }
 {
-    match row {
-        Some(row) => Outcome::Current(Fact::Linear(how, row)),
-        None => refuse(domain, Refusal::RowTooLarge),
-    }
-}
-
-// M, at the current fact, with the relation and the row of the fact that is added.
-fn add_to(domain: Domain, factor: Factor, current: &Fact, how: Relation, row: &Row) -> Outcome
-    ensures { result ≡ add_to domain factor.value current.now how row.now }
-{
-    let Fact::Linear(relation, old) = current else {
-        return refuse(domain, Refusal::ConditionFails);
-    };
-    match *relation {
-        Relation::Zero => refuse(domain, Refusal::ConditionFails),
-        Relation::NonNegative | Relation::Positive => {
-            make_current(domain, join(*relation, how), sum(old, factor, row))
-        }
-    }
+    let row = row.ok_or(Refusal::RowTooLarge)?;
+    Ok(Outcome::Current(Fact::Linear(how, row)))
 }
 
 // M, at the current fact and another.
-fn add(domain: Domain, factor: Factor, current: &Fact, fact: &Fact) -> Outcome
-    ensures { result ≡ added domain factor.value current.now fact.now }
+fn add(factor: Factor, current: &Fact, fact: &Fact) -> Result<Outcome, Cause>
+    ensures { result ≡ added factor.value current.now fact.now }
 {
     let Fact::Linear(how, row) = fact else {
-        return refuse(domain, Refusal::WrongRelation);
+        return Err(Refusal::WrongRelation.into());
     };
-    if may_multiply(*how, factor) {
-        add_to(domain, factor, current, *how, row)
-    } else {
-        refuse(domain, Refusal::MultiplierNotPositive)
+    if !may_multiply(*how, factor) {
+        return Err(Refusal::MultiplierNotPositive.into());
+    }
+    match current {
+        Fact::Linear(Relation::Zero, _) | Fact::Equal(_, _) | Fact::Distinct(_, _) => {
+            Err(Refusal::ConditionFails.into())
+        }
+        Fact::Linear(relation, old) => make_current(join(*relation, *how), sum(old, factor, row)),
     }
 }
 
 // Q, at the current fact and another.
-fn antisymmetry(domain: Domain, n: Name, m: Name, current: &Fact, fact: &Fact) -> Outcome
-    ensures { result ≡ both_ways domain n m (at_least current.now) (at_least fact.now) }
+fn antisymmetry(n: Name, m: Name, current: &Fact, fact: &Fact) -> Result<Outcome, Cause>
+    ensures { result ≡ both_ways n m (at_least current.now) (at_least fact.now) }
 {
-    let Some(below) = row_at_least(fact) else {
-        return refuse(domain, Refusal::WrongRelation);
-    };
-    let Some(row) = row_at_least(current) else {
-        return refuse(domain, Refusal::ConditionFails);
-    };
+    let below = row_that(Relation::NonNegative, fact).ok_or(Refusal::WrongRelation)?;
+    let row = row_that(Relation::NonNegative, current).ok_or(Refusal::ConditionFails)?;
     if is_difference(row, n, m) && is_difference(below, m, n) {
-        Outcome::Equal(n, m)
+        Ok(Outcome::Equal(n, m))
     } else {
-        refuse(domain, Refusal::ConditionFails)
+        Err(Refusal::ConditionFails.into())
     }
 }
 
 // F, at the current fact.
-fn falsify(domain: Domain, current: &Fact) -> Outcome
-    ensures { result ≡ falsified domain current.now }
-{
-    let Fact::Linear(how, row) = current else {
-        return refuse(domain, Refusal::ConditionFails);
-    };
-    if contradicts(*how, row) {
-        Outcome::Contradiction
-    } else {
-        refuse(domain, Refusal::ConditionFails)
-    }
-}
-
-// I, at the current fact.
-fn strengthen(domain: Domain, current: &Fact) -> Outcome
-    ensures { result ≡ strengthened domain (above current.now) }
-{
-    match row_above(current) {
-        Some(row) => make_current(domain, Relation::NonNegative, lower(row)),
-        None => refuse(domain, Refusal::ConditionFails),
-    }
-}
-
-// U, at the current fact.
-fn divide(domain: Domain, current: &Fact) -> Outcome
-    ensures { result ≡ divided domain (at_least current.now) }
-{
-    let Some(row) = row_at_least(current) else {
-        return refuse(domain, Refusal::ConditionFails);
-    };
-    match cut(row) {
-        Some(row) => Outcome::Current(Fact::Linear(Relation::NonNegative, row)),
-        None => refuse(domain, Refusal::ConditionFails),
-    }
-}
-
-// M.
-fn infer_add(
-    domain: Domain,
-    index: u8,
-    factor: Factor,
-    facts: &[Fact],
-    current: &Option<Fact>,
-) -> Outcome
-    ensures { result ≡ by_current domain current.now (λ held. by_fact domain facts.now (slice_get facts.now index) (added domain factor.value held)) }
-{
-    let Some(held) = current else {
-        return refuse(domain, Refusal::NoCurrentFact);
-    };
-    match fact_at(facts, index) {
-        Some(fact) => add(domain, factor, held, fact),
-        None => refuse_index(domain, facts),
-    }
-}
-
-// Q.
-fn infer_antisymmetry(
-    domain: Domain,
-    index: u8,
-    n: Name,
-    m: Name,
-    facts: &[Fact],
-    current: &Option<Fact>,
-) -> Outcome
-    ensures { result ≡ by_current domain current.now (λ held. by_fact domain facts.now (slice_get facts.now index) (λ fact. both_ways domain n m (at_least held) (at_least fact))) }
-{
-    let Some(held) = current else {
-        return refuse(domain, Refusal::NoCurrentFact);
-    };
-    match fact_at(facts, index) {
-        Some(fact) => antisymmetry(domain, n, m, held, fact),
-        None => refuse_index(domain, facts),
-    }
-}
-
-// F.
-fn infer_falsify(domain: Domain, current: &Option<Fact>) -> Outcome
-    ensures { result ≡ by_current domain current.now (falsified domain) }
+fn falsify(current: &Fact) -> Result<Outcome, Cause>
+    ensures { result ≡ falsified current.now }
 {
     match current {
-        Some(held) => falsify(domain, held),
-        None => refuse(domain, Refusal::NoCurrentFact),
+        Fact::Linear(how, row) if contradicts(*how, row) => Ok(Outcome::Contradiction),
+        _ => Err(Refusal::ConditionFails.into()),
     }
 }
 
-// I, over whole numbers alone.
-fn infer_strengthen(domain: Domain, current: &Option<Fact>) -> Outcome
-    ensures { result ≡ whole_only domain (by_current domain current.now (λ held. strengthened domain (above held))) }
+// I, over whole numbers alone, at the current fact.
+fn strengthen(current: &Fact) -> Result<Outcome, Cause>
+    ensures { result ≡ strengthened (above current.now) }
 {
-    let Domain::Whole = domain else {
-        return refuse(domain, Refusal::UnknownInference);
-    };
-    match current {
-        Some(held) => strengthen(domain, held),
-        None => refuse(domain, Refusal::NoCurrentFact),
-    }
+    let row = row_that(Relation::Positive, current).ok_or(Refusal::ConditionFails)?;
+    make_current(Relation::NonNegative, lower(row))
 }
 
-// U, over whole numbers alone.
-fn infer_cut(domain: Domain, current: &Option<Fact>) -> Outcome
-    ensures { result ≡ whole_only domain (by_current domain current.now (λ held. divided domain (at_least held))) }
+// U, over whole numbers alone, at the current fact.
+fn divide(current: &Fact) -> Result<Outcome, Cause>
+    ensures { result ≡ divided (at_least current.now) }
 {
-    let Domain::Whole = domain else {
-        return refuse(domain, Refusal::UnknownInference);
-    };
-    match current {
-        Some(held) => divide(domain, held),
-        None => refuse(domain, Refusal::NoCurrentFact),
-    }
+    let row = row_that(Relation::NonNegative, current).ok_or(Refusal::ConditionFails)?;
+    let quotient = cut(row).ok_or(Refusal::ConditionFails)?;
+    Ok(Outcome::Current(Fact::Linear(Relation::NonNegative, quotient)))
 }
 
-// P.
-fn infer_push(domain: Domain, current: &Option<Fact>) -> Outcome
-    ensures { result ≡ by_current domain current.now (λ held. Outcome.Pushed held) }
+// What an inference comes to. A refusal does not carry the theory's number yet.
+fn apply(domain: Domain, inference: Inference, premises: Premises) -> Result<Outcome, Cause>
+    ensures { result ≡ inferred domain inference premises.entry.facts.now premises.entry.current.now }
 {
-    match current {
-        Some(held) => Outcome::Pushed(*held),
-        None => refuse(domain, Refusal::NoCurrentFact),
+    match (inference, domain) {
+        (Inference::Zero, _) => Ok(Outcome::Current(Fact::Linear(Relation::NonNegative, zero()))),
+        (Inference::Add(index, factor), _) => {
+            add(factor, premises.current()?, premises.fact(index)?)
+        }
+        (Inference::Antisymmetry(index, n, m), _) => {
+            antisymmetry(n, m, premises.current()?, premises.fact(index)?)
+        }
+        (Inference::Falsify, _) => falsify(premises.current()?),
+        (Inference::Strengthen, Domain::Whole) => strengthen(premises.current()?),
+        (Inference::Cut, Domain::Whole) => divide(premises.current()?),
+        (Inference::Push, _) => Ok(Outcome::Pushed(*premises.current()?)),
+        _ => Err(Refusal::UnknownInference.into()),
     }
 }
 
-// What an inference comes to.
+// What an inference comes to, in the theory over these values.
 pub(crate) fn infer(
     domain: Domain,
     inference: Inference,
-    facts: &[Fact],
-    current: &Option<Fact>,
-) -> Outcome
-    ensures { result ≡ outcome domain inference facts.now current.now }
+    premises: Premises,
+) -> Result<Outcome, Cause>
+    ensures { result ≡ outcome domain inference premises.entry.facts.now premises.entry.current.now }
 {
-    match inference {
-        Inference::Zero => Outcome::Current(Fact::Linear(Relation::NonNegative, zero())),
-        Inference::Add(index, factor) => infer_add(domain, index, factor, facts, current),
-        Inference::Antisymmetry(index, n, m) => {
-            infer_antisymmetry(domain, index, n, m, facts, current)
-        }
-        Inference::Falsify => infer_falsify(domain, current),
-        Inference::Strengthen => infer_strengthen(domain, current),
-        Inference::Cut => infer_cut(domain, current),
-        Inference::Push => infer_push(domain, current),
-        Inference::Reflexivity(_)
-        | Inference::Transitivity(_, _)
-        | Inference::Congruence(_, _, _)
-        | Inference::Clash(_)
-        | Inference::Propagate => refuse(domain, Refusal::UnknownInference),
-    }
+    let theory = domain.number();
+    apply(domain, inference, premises).map_err(|cause| cause.by(theory))
 }
 
 // The fact that is kept when a theory over rows is told how two names compare.

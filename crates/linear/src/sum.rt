@@ -4,6 +4,7 @@ ghost use Rattle.linear.specs.Forms.{lowered, sum_row, zero_row};
 ghost use Rattle.linear.specs.Rows.{listed, coefficient};
 
 use facts::Row;
+use std::array;
 use theory::Factor;
 
 // The row 0.
@@ -13,22 +14,14 @@ pub(crate) fn zero() -> Row
     Row::new(0, [0; 32]).unwrap()
 }
 
-// A multiple of a number of a row.
-fn multiple(factor: Factor, b: i64) -> i64
-    requires { Sized row_limit b }
-    ensures value { result ≡ factor.value *ℤ b }
-    ensures small { Sized 1_000_000_000_000_000_000 result }
-{
-    i64::from(factor.value()) * b
-}
-
-// A number of a row and a multiple of another.
+// A number of a row and a multiple of another. The bounds are asked here: a type of a row's numbers
+// would be taken apart at every sum.
 fn sum_number(a: i64, factor: Factor, b: i64) -> i64
     requires left { Sized row_limit a }
     requires right { Sized row_limit b }
     ensures { result ≡ a +ℤ (factor.value *ℤ b) }
 {
-    a + multiple(factor, b)
+    a + i64::from(factor.value()) * b
 }
 
 // The coefficients of a row and a multiple of another.
@@ -37,11 +30,7 @@ fn sum_coefficients(a: &Row, factor: Factor, b: &Row) -> [i64; 32]
 {
     let left = a.coefficients();
     let right = b.coefficients();
-    let mut sums = [0; 32];
-    for i in 0..32 {
-        sums[i] = sum_number(left[i], factor, right[i]);
-    }
-    sums
+    array::from_fn(|k| sum_number(left[k], factor, right[k]))
 }
 
 // The row a and a multiple of b, if its numbers fit.
@@ -52,17 +41,9 @@ pub(crate) fn sum(a: &Row, factor: Factor, b: &Row) -> Option<Row>
     Row::new(constant, sum_coefficients(a, factor, b))
 }
 
-// A number of a row minus 1.
-fn lower_number(a: i64) -> i64
-    requires { Sized row_limit a }
-    ensures { result ≡ a -ℤ pos 1 }
-{
-    a - 1
-}
-
 // The row minus 1, if its constant fits.
 pub(crate) fn lower(row: &Row) -> Option<Row>
     ensures { result ≡ lowered row.now }
 {
-    Row::new(lower_number(row.constant()), *row.coefficients())
+    Row::new(row.constant() - 1, *row.coefficients())
 }

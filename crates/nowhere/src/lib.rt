@@ -42,12 +42,8 @@ impl Theory for Nowhere {
         Ok(())
     }
 
-    fn infer(&mut self, _address: usize, _inference: Inference) -> Outcome {
-        Outcome::Refused(Cause {
-            refusal: Refusal::NothingAtAddress,
-            detail: 0,
-            theory: 0,
-        })
+    fn infer(&mut self, _address: usize, _inference: Inference) -> Result<Outcome, Cause> {
+        Err(Refusal::NothingAtAddress.into())
     }
 
     fn open_refusal(&self) -> Option<Refusal> {

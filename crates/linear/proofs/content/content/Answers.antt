@@ -1,12 +1,10 @@
-use Rattle.std.proofs.Common.{rules}
-use Rattle.linear.specs.Contents.{content_none, content_more, content_all}
+use Rattle.std.proofs.Common.{subst, rules}
+use Rattle.std.proofs.lemmas.Fn.{fold_over, fronts, slice_gives}
+use Rattle.linear.specs.Content.{Content}
+use Rattle.linear.specs.Contents.{content_nothing, content_append}
 use Rattle.linear.proofs.content.content.Goals as goal
 
-pub loop-i-init : goal.loop-i-init
-loop-i-init c = search (rules, content_none)
-
-pub loop-i-preserved : goal.loop-i-preserved
-loop-i-preserved c = search (rules, content_more)
-
 pub returns : goal.returns
-returns c = search (rules, content_all)
+returns c =
+    subst (λ zs. Content zs c.fold.result) c.iter.ensures.rest
+    (fold_over fronts (λ y. y.now) _ Content _ (λ ys a x b f' before called. search (rules, content_append)) c.iter.result _ 0 _ (slice_gives c.iter.result) content_nothing c.fold.ensures.ran)

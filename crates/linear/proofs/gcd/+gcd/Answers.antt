@@ -1,9 +1,6 @@
 use Rattle.std.proofs.Common.{rules}
-use Rattle.linear.specs.Divisors.{greatest_of_zero, greatest_of_rest}
+use Rattle.linear.specs.Divisors.{greatest_of_rest}
 use Rattle.linear.proofs.gcd.+gcd.Goals as goal
-
-pub returns-then-b-eq0 : goal.returns-then-b-eq0
-returns-then-b-eq0 t c = search (rules, greatest_of_zero)
 
 pub returns-else-b-eq0 : goal.returns-else-b-eq0
 returns-else-b-eq0 t c = search (rules, greatest_of_rest)
