@@ -64,13 +64,3 @@ reached_more places_of book c d s r ps literals ss rs taken step h =
         counted_splits = counts.2;
       },
     )
-
--- ---- along a slice
-
-pub claimed_at : {T : Type 0} (places_of : T → Places) (book : Book) (c : Claim T) (ls ms : List Literal) (rs qs : List Answer) (taken : List Literal) → ls ≡ ms → rs ≡ qs → Claimed places_of book c ms qs taken → (t : List Literal) × Claimed places_of book c ls rs t
-claimed_at places_of book c ls ms rs qs taken e f h =
-    (taken, subst (λ x. Claimed places_of book c x rs taken) (sym e) (subst (λ x. Claimed places_of book c ms x taken) (sym f) h))
-
-pub reached_at : {T : Type 0} (places_of : T → Places) (book : Book) (d : Derivation T) (ps : Places) (literals : List Literal) (ss us : List SentStep) (rs qs : List Answer) (taken : List Step) → ss ≡ us → rs ≡ qs → Reached places_of book d ps literals us qs taken → (t : List Step) × Reached places_of book d ps literals ss rs t
-reached_at places_of book d ps literals ss us rs qs taken e f h =
-    (taken, subst (λ x. Reached places_of book d ps literals x rs taken) (sym e) (subst (λ x. Reached places_of book d ps literals us x taken) (sym f) h))

@@ -1,5 +1,5 @@
 -- How a step changes what is left to do.
-use Rattle.std.proofs.Common.{◌≡◌, ℕ, suc, ◌<◌, List, [], ◌∷◌, length, sym, ap, subst}
+use Rattle.std.proofs.Common.{◌≡◌, ℕ, suc, ◌<◌, List, [], ◌∷◌, length, Ok, sym, ap, subst}
 use Rattle.facts.specs.declared.fact.Comparison.{Comparison}
 use Rattle.facts.specs.declared.name.Name.{Name}
 use Rattle.theory.specs.Places.{Places}
@@ -71,7 +71,7 @@ module _ (book : Book) where
     first : (s : Step) → Same (λ w. Finishes book ps ss (s ∷ w)) (Then (λ u. D ps (s ∷ u)) W)
     first s = then_first (D ps) W (some_step book (length ss) ps) s
 
-    pub took_contradiction : (a : ℕ) (i : Inference) → outcome_at book ps a i ≡ Outcome.Contradiction → Same (λ w. Finishes book ps ss (Step.Infer a i ∷ w)) (Left book (next book ss (all_dropped ps)))
+    pub took_contradiction : (a : ℕ) (i : Inference) → outcome_at book ps a i ≡ Ok Outcome.Contradiction → Same (λ w. Finishes book ps ss (Step.Infer a i ∷ w)) (Left book (next book ss (all_dropped ps)))
     took_contradiction a i h =
         same_trans _ _ _ (first (Step.Infer a i))
         (same_trans _ _ _ (then_left (λ u. D ps (Step.Infer a i ∷ u)) (λ u. u ≡ []) W (after_contradiction book (length ss) ps a i h))
@@ -82,7 +82,7 @@ module _ (book : Book) where
         subst (λ x. Same (λ w. Finishes book ps ss (Step.Infer a i ∷ w)) (Then (D (changed_at a (outcome_at book ps a i) ps)) (Waiting book ss x))) (sym (dropped_changed a (outcome_at book ps a i) ps))
         (same_trans _ _ _ (first (Step.Infer a i)) (then_left (λ u. D ps (Step.Infer a i ∷ u)) (D (changed_at a (outcome_at book ps a i) ps)) W (after_fact book (length ss) ps a i h)))
 
-    pub took_equality : (a : ℕ) (i : Inference) (n m : Name) → outcome_at book ps a i ≡ Outcome.Equal n m → RoomTold book (Comparison.Equal n m) ps → Same (λ w. Finishes book ps ss (Step.Infer a i ∷ w)) (Finishes book (told book (Comparison.Equal n m) ps) ss)
+    pub took_equality : (a : ℕ) (i : Inference) (n m : Name) → outcome_at book ps a i ≡ Ok (Outcome.Equal n m) → RoomTold book (Comparison.Equal n m) ps → Same (λ w. Finishes book ps ss (Step.Infer a i ∷ w)) (Finishes book (told book (Comparison.Equal n m) ps) ss)
     took_equality a i n m h room =
         subst (λ x. Same (λ w. Finishes book ps ss (Step.Infer a i ∷ w)) (Then (D (told book (Comparison.Equal n m) ps)) (Waiting book ss x))) (sym (dropped_told book (Comparison.Equal n m) ps))
         (same_trans _ _ _ (first (Step.Infer a i)) (then_left (λ u. D ps (Step.Infer a i ∷ u)) (D (told book (Comparison.Equal n m) ps)) W (after_equality book (length ss) ps a i n m h room)))

@@ -1,11 +1,12 @@
 -- Every state that calls lead to has equal levels, and room for the branches that wait.
-use Rattle.std.proofs.Common.{◌≡◌, ℕ, suc, ◌+◌, ◌<◌, ◌≤◌, Bool, true, false, cond, eqb, List, [], ◌∷◌, length, Some, None, Option, sym, refl, ap, subst, arith}
+use Rattle.std.proofs.Common.{◌≡◌, ℕ, suc, ◌+◌, ◌<◌, ◌≤◌, Bool, true, false, cond, eqb, List, [], ◌∷◌, length, Some, None, Ok, Err, Option, Result, sym, refl, ap, subst, arith}
 use Rattle.std.specs.Option.{option_map}
 use Rattle.facts.specs.declared.fact.Comparison.{Comparison}
 use Rattle.facts.specs.declared.fact.Fact.{Fact}
+use Rattle.facts.specs.declared.fault.Cause.{Cause}
 use Rattle.facts.specs.declared.literal.Literal.{Literal}
 use Rattle.theory.specs.Places.{Place, Places, empty, opened, dropped, add, most_facts}
-use Rattle.theory.specs.Rules.{Rules, Book, Wanted, telling_wanted, literal_wanted, with_wanted, Room, changed}
+use Rattle.theory.specs.Rules.{Rules, Book, Wanted, telling_wanted, literal_wanted, with_wanted, Room, changed_by}
 use Rattle.theory.specs.declared.inference.Outcome.{Outcome}
 use Rattle.claim.specs.Calls.{Answer, LiteralCall, StepCall, Levelled, Ready, Fit}
 use Rattle.claim.specs.Derivations.{State, working, next, by_branch, in_branch, RoomTold, told, all_dropped, changed_at, branch_from, most_splits}
@@ -43,12 +44,12 @@ opened_level : (n : ℕ) (q : Option Place) → AtLevel n q → AtLevel (suc n) 
 opened_level n None h = tt
 opened_level n (Some p) h = ap suc h
 
-changed_below : (n : ℕ) (o : Outcome) (p : Place) → length p.below ≡ n → length (changed o p).below ≡ n
-changed_below n (Outcome.Current f) p h = h
-changed_below n (Outcome.Pushed f) p h = h
-changed_below n (Outcome.Equal m k) p h = h
-changed_below n Outcome.Contradiction p h = h
-changed_below n (Outcome.Refused c) p h = h
+changed_below : (n : ℕ) (r : Result Outcome Cause) (p : Place) → length p.below ≡ n → length (changed_by r p).below ≡ n
+changed_below n (Ok (Outcome.Current f)) p h = h
+changed_below n (Ok (Outcome.Pushed f)) p h = h
+changed_below n (Ok (Outcome.Equal m k)) p h = h
+changed_below n (Ok Outcome.Contradiction) p h = h
+changed_below n (Err c) p h = h
 
 levelled_told : (book : Book) (k : Comparison) (n : ℕ) (ps : Places) → Levelled n ps → Levelled n (told book k ps)
 levelled_told book k n ps h = from_each n (told book k ps) (λ a. wanted_level n (telling_wanted book k a) (ps a) (to_each n ps h a))
@@ -57,10 +58,10 @@ levelled_branch : (book : Book) (k : Comparison) (n : ℕ) (ps : Places) → Lev
 levelled_branch book k n ps h =
     from_each (suc n) (branch_from book k ps) (λ a. wanted_level (suc n) (telling_wanted book k a) (option_map opened (ps a)) (opened_level n (ps a) (to_each n ps h a)))
 
-levelled_changed : (a : ℕ) (o : Outcome) (n : ℕ) (ps : Places) → Levelled n ps → Levelled n (changed_at a o ps)
+levelled_changed : (a : ℕ) (o : Result Outcome Cause) (n : ℕ) (ps : Places) → Levelled n ps → Levelled n (changed_at a o ps)
 levelled_changed a o n ps h = from_each n (changed_at a o ps) (λ b. at (eqb b a) (ps b) (to_each n ps h b))
   where
-    at : (t : Bool) (q : Option Place) → AtLevel n q → AtLevel n (cond t (option_map (changed o) q) q)
+    at : (t : Bool) (q : Option Place) → AtLevel n q → AtLevel n (cond t (option_map (changed_by o) q) q)
     at true None k = tt
     at true (Some p) k = changed_below n o p k
     at false q k = k

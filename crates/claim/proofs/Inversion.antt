@@ -1,5 +1,5 @@
 -- What the first step of a derivation says of it.
-use Rattle.std.proofs.Common.{◌≡◌, ℕ, suc, ◌<◌, ◌≤◌, ◌⊎◌, List, [], ◌∷◌, ◌++◌, sym, refl, ap, ◌∙◌, subst, inl, inr, arith}
+use Rattle.std.proofs.Common.{◌≡◌, ℕ, suc, ◌<◌, ◌≤◌, ◌⊎◌, List, [], ◌∷◌, ◌++◌, Ok, Err, sym, refl, ap, ◌∙◌, subst, inl, inr, arith}
 use Rattle.facts.specs.declared.fact.Comparison.{Comparison}
 use Rattle.facts.specs.declared.fault.Cause.{Cause}
 use Rattle.facts.specs.declared.name.Name.{Name}
@@ -28,9 +28,9 @@ module _ (book : Book) where
   -- the ways a derivation can begin with an inference
   abbrev AfterInference : ℕ → Places → ℕ → Inference → List Step → Type 0
   AfterInference d ps a i w =
-      ((outcome_at book ps a i ≡ Outcome.Contradiction) × (w ≡ []))
+      ((outcome_at book ps a i ≡ Ok Outcome.Contradiction) × (w ≡ []))
       ⊎ ((LeavesFact (outcome_at book ps a i) × Derives book d (changed_at a (outcome_at book ps a i) ps) w)
-      ⊎ ((n : Name) × (m : Name) × (outcome_at book ps a i ≡ Outcome.Equal n m) × RoomTold book (Comparison.Equal n m) ps × Derives book d (told book (Comparison.Equal n m) ps) w))
+      ⊎ ((n : Name) × (m : Name) × (outcome_at book ps a i ≡ Ok (Outcome.Equal n m)) × RoomTold book (Comparison.Equal n m) ps × Derives book d (told book (Comparison.Equal n m) ps) w))
 
   pub record AfterSplit (d : ℕ) (ps : Places) (n m : Name) (w : List Step) : Type 0 where
     pub few : d < most_splits
@@ -69,7 +69,7 @@ module _ (book : Book) where
   -- ---- a step that can be taken, and what it leaves to derive
 
   module _ (d : ℕ) (ps : Places) (a : ℕ) (i : Inference) where
-    pub after_contradiction : outcome_at book ps a i ≡ Outcome.Contradiction → Same (λ w. Derives book d ps (Step.Infer a i ∷ w)) (λ w. w ≡ [])
+    pub after_contradiction : outcome_at book ps a i ≡ Ok Outcome.Contradiction → Same (λ w. Derives book d ps (Step.Infer a i ∷ w)) (λ w. w ≡ [])
     after_contradiction h w = (λ r. back (begun d ps (Step.Infer a i) w r), λ e. subst (λ x. Derives book d ps (Step.Infer a i ∷ x)) (sym e) (contradiction a i h))
       where
         back : AfterInference d ps a i w → w ≡ []
@@ -85,7 +85,7 @@ module _ (book : Book) where
         back (inr (inl k)) = k.1
         back (inr (inr k)) = absurd (subst LeavesFact k.2 h)
 
-    pub after_equality : (n m : Name) → outcome_at book ps a i ≡ Outcome.Equal n m → RoomTold book (Comparison.Equal n m) ps → Same (λ w. Derives book d ps (Step.Infer a i ∷ w)) (Derives book d (told book (Comparison.Equal n m) ps))
+    pub after_equality : (n m : Name) → outcome_at book ps a i ≡ Ok (Outcome.Equal n m) → RoomTold book (Comparison.Equal n m) ps → Same (λ w. Derives book d ps (Step.Infer a i ∷ w)) (Derives book d (told book (Comparison.Equal n m) ps))
     after_equality n m h room w = (λ r. back (begun d ps (Step.Infer a i) w r), λ r. equality a i n m h room r)
       where
         back : AfterInference d ps a i w → Derives book d (told book (Comparison.Equal n m) ps) w
@@ -96,7 +96,7 @@ module _ (book : Book) where
             subst (λ c. Derives book d (told book c ps) w) same k.4
 
     -- a refused inference begins no derivation
-    pub no_refused : (c : Cause) → outcome_at book ps a i ≡ Outcome.Refused c → (w : List Step) → Derives book d ps (Step.Infer a i ∷ w) → ⊥
+    pub no_refused : (c : Cause) → outcome_at book ps a i ≡ Err c → (w : List Step) → Derives book d ps (Step.Infer a i ∷ w) → ⊥
     no_refused c h w r = back (begun d ps (Step.Infer a i) w r)
       where
         back : AfterInference d ps a i w → ⊥
@@ -105,7 +105,7 @@ module _ (book : Book) where
         back (inr (inr k)) = let z : ◌≡◌ {A = ℕ} 0 1 = (let e = k.2 in cc) in omega arith
 
     -- nor does an equality for which some address has no room
-    pub no_equality : (n m : Name) → outcome_at book ps a i ≡ Outcome.Equal n m → Full ps (telling_wanted book (Comparison.Equal n m)) → (w : List Step) → Derives book d ps (Step.Infer a i ∷ w) → ⊥
+    pub no_equality : (n m : Name) → outcome_at book ps a i ≡ Ok (Outcome.Equal n m) → Full ps (telling_wanted book (Comparison.Equal n m)) → (w : List Step) → Derives book d ps (Step.Infer a i ∷ w) → ⊥
     no_equality n m h full w r = back (begun d ps (Step.Infer a i) w r)
       where
         back : AfterInference d ps a i w → ⊥

@@ -1,25 +1,26 @@
 -- What dropping a level leaves of the changes in it: nothing.
-use Rattle.std.proofs.Common.{◌≡◌, ℕ, Bool, true, false, cond, eqb, Some, None, Option, refl, ap}
+use Rattle.std.proofs.Common.{◌≡◌, ℕ, Bool, true, false, cond, eqb, Some, None, Ok, Err, Option, Result, refl, ap}
 use mathlib.Core.Path.{fun_ext}
 use Rattle.std.specs.Option.{option_map}
 use Rattle.facts.specs.declared.fact.Comparison.{Comparison}
 use Rattle.facts.specs.declared.fact.Fact.{Fact}
+use Rattle.facts.specs.declared.fault.Cause.{Cause}
 use Rattle.theory.specs.Places.{Place, Places, opened, dropped}
-use Rattle.theory.specs.Rules.{Book, telling_wanted, with_wanted, changed}
+use Rattle.theory.specs.Rules.{Book, telling_wanted, with_wanted, changed_by}
 use Rattle.theory.specs.declared.inference.Outcome.{Outcome}
 use Rattle.claim.specs.Derivations.{told, all_opened, all_dropped, changed_at, branch_from}
 
-changed_below : (o : Outcome) (p : Place) → dropped (changed o p) ≡ dropped p
-changed_below (Outcome.Current f) p = refl
-changed_below (Outcome.Pushed f) p = refl
-changed_below (Outcome.Equal n m) p = refl
-changed_below Outcome.Contradiction p = refl
-changed_below (Outcome.Refused c) p = refl
+changed_below : (r : Result Outcome Cause) (p : Place) → dropped (changed_by r p) ≡ dropped p
+changed_below (Ok (Outcome.Current f)) p = refl
+changed_below (Ok (Outcome.Pushed f)) p = refl
+changed_below (Ok (Outcome.Equal n m)) p = refl
+changed_below (Ok Outcome.Contradiction) p = refl
+changed_below (Err c) p = refl
 
-pub dropped_changed : (a : ℕ) (o : Outcome) (ps : Places) → all_dropped (changed_at a o ps) ≡ all_dropped ps
+pub dropped_changed : (a : ℕ) (o : Result Outcome Cause) (ps : Places) → all_dropped (changed_at a o ps) ≡ all_dropped ps
 dropped_changed a o ps = fun_ext (λ b. at (eqb b a) (ps b))
   where
-    at : (t : Bool) (q : Option Place) → option_map dropped (cond t (option_map (changed o) q) q) ≡ option_map dropped q
+    at : (t : Bool) (q : Option Place) → option_map dropped (cond t (option_map (changed_by o) q) q) ≡ option_map dropped q
     at true None = refl
     at true (Some p) = ap Some (changed_below o p)
     at false q = refl

@@ -1,32 +1,25 @@
--- From one state of a derivation to the next.
-use Rattle.std.proofs.Common.{◌≡◌, ℕ, suc, ◌<◌, ◌≤◌, Bool, true, false, cond, List, [], ◌∷◌, length, Some, None, MatchBool, Option, sym, refl, ap, ◌∙◌, subst, arith}
+-- From one branch of a derivation to the next.
+use Rattle.std.proofs.Common.{◌≡◌, ℕ, suc, ◌<◌, false, cond, List, [], ◌∷◌, length, Some, None, Option, sym, refl, ap, ◌∙◌, subst, arith}
 use Rattle.std.specs.Option.{option_map}
 use Rattle.facts.specs.declared.fact.Comparison.{Comparison}
 use Rattle.facts.specs.declared.fact.Fact.{Fact}
 use Rattle.theory.specs.Places.{Place, Places, dropped, down_to}
 use Rattle.theory.specs.Rules.{Book}
 use Rattle.claim.specs.Calls.{Levelled, Ready, Fit}
-use Rattle.claim.specs.Derivations.{State, closed, working, next, by_branch, in_branch, RoomTold, all_dropped, branch_from, most_splits}
-use Rattle.claim.specs.Derived.{BranchEntered, BranchBegun, state_of}
+use Rattle.claim.specs.Derivations.{State, closed, working, next, by_branch, in_branch, comparison_of, RoomTold, all_dropped, branch_from, most_splits}
+use Rattle.claim.specs.Derived.{state_of}
 use Rattle.claim.specs.Stacks.{stack_splits}
 use Rattle.claim.specs.declared.derivation.Derivation.{Derivation}
-use Rattle.claim.specs.declared.stack.Stack.{Stack}
 use Rattle.claim.specs.declared.step.Branch.{Branch}
 use Rattle.claim.specs.declared.step.OpenSplit.{OpenSplit}
 
--- a push where there is room
-pub was_pushed : (n : ℕ) (P : Type 0) (Q : Type 0) (r : Bool) → n < 8 → MatchBool r ((n < 8) × P) ((8 ≤ n) × Q) → P
-was_pushed n P Q true few h = h.1
-was_pushed n P Q false few h = absurd (omega (arith, h.0))
+pub working_is : {T : Type 0} (places_of : T → Places) (d : Derivation T) (ps : Places) (ss : List OpenSplit) → d.closed ≡ false → places_of d.theory ≡ ps → stack_splits d.stack ≡ ss → state_of places_of d ≡ working ps ss
+working_is places_of d ps ss is_open at stack =
+    ap (λ c. cond c closed (working (places_of d.theory) (stack_splits d.stack))) is_open
+    ∙ ap (λ x. working x (stack_splits d.stack)) at
+    ∙ ap (working ps) stack
 
-module _ {T : Type 0} (places_of : T → Places) (book : Book) (s : OpenSplit) (before after : Derivation T) where
-  pub first_entered : s.branch ≡ Branch.First → BranchEntered places_of book s (Comparison.Equal s.left s.right) Branch.Second before after → BranchBegun places_of book s true before after
-  first_entered e h = subst (λ b. by_branch b (BranchEntered places_of book s (Comparison.Equal s.left s.right) Branch.Second before after) (BranchEntered places_of book s (Comparison.Greater s.left s.right) Branch.Third before after) ⊥) (sym e) h
-
-  pub second_entered : s.branch ≡ Branch.Second → BranchEntered places_of book s (Comparison.Greater s.left s.right) Branch.Third before after → BranchBegun places_of book s true before after
-  second_entered e h = subst (λ b. by_branch b (BranchEntered places_of book s (Comparison.Equal s.left s.right) Branch.Second before after) (BranchEntered places_of book s (Comparison.Greater s.left s.right) Branch.Third before after) ⊥) (sym e) h
-
--- ---- levels and room are kept
+-- ---- levels are kept
 
 pub levelled_dropped : (n : ℕ) (ps : Places) → Levelled (suc n) ps → Levelled n (all_dropped ps)
 levelled_dropped n ps h a p stands = at (ps a) refl stands
@@ -47,52 +40,50 @@ levelled_dropped n ps h a p stands = at (ps a) refl stands
 -- ---- out of a branch
 
 -- what a popped split and a dropped level leave
-pub record LeftBranch {T : Type 0} (places_of : T → Places) (book : Book) (s : OpenSplit) (before : Places) (t : T) (k : Stack) : Type 0 where
-  pub dropped : places_of t ≡ all_dropped before
-  pub levelled : Levelled (length (stack_splits k)) (places_of t)
-  pub few : length (stack_splits k) < most_splits
-  pub equal : RoomTold book (Comparison.Equal s.left s.right) (places_of t)
-  pub greater : RoomTold book (Comparison.Greater s.left s.right) (places_of t)
-  pub ready : Ready book (stack_splits k) (all_dropped (places_of t))
+pub record LeftBranch (book : Book) (s : OpenSplit) (ss : List OpenSplit) (before now : Places) : Type 0 where
+  pub dropped : now ≡ all_dropped before
+  pub levelled : Levelled (length ss) now
+  pub few : length ss < most_splits
+  pub ready : Ready book (s ∷ ss) now
 
-module _ {T : Type 0} (places_of : T → Places) (book : Book) (s : OpenSplit) (t₀ : T) (k₀ : Stack) (t : T) (k : Stack) (popped : stack_splits k₀ ≡ s ∷ stack_splits k) (ended : (n : ℕ) → Levelled (suc n) (places_of t₀) → places_of t ≡ all_dropped (places_of t₀)) (fit : Fit book (working (places_of t₀) (stack_splits k₀))) where
-  pub left_branch : LeftBranch places_of book s (places_of t₀) t k
-  left_branch =
-      let whole = subst (λ ss. Fit book (working (places_of t₀) ss)) popped fit in
-      let down = ended (length (stack_splits k)) whole.0 in
-      let ready = subst (Ready book (s ∷ stack_splits k)) (sym down) whole.2 in
-      record {
-        dropped = down;
-        levelled = subst (Levelled (length (stack_splits k))) (sym down) (levelled_dropped (length (stack_splits k)) (places_of t₀) whole.0);
-        few = (let few = whole.1 in omega arith);
-        equal = ready.0;
-        greater = ready.1;
-        ready = ready.2;
-      }
+pub left_branch : (book : Book) (s : OpenSplit) (ss all : List OpenSplit) (before now : Places) → all ≡ s ∷ ss → ((n : ℕ) → Levelled (suc n) before → now ≡ all_dropped before) → Fit book (working before all) → LeftBranch book s ss before now
+left_branch book s ss all before now popped ended fit =
+    let whole = subst (λ x. Fit book (working before x)) popped fit in
+    let down = ended (length ss) whole.0 in
+    record {
+      dropped = down;
+      levelled = subst (Levelled (length ss)) (sym down) (levelled_dropped (length ss) before whole.0);
+      few = (let few = whole.1 in omega arith);
+      ready = subst (Ready book (s ∷ ss)) (sym down) whole.2;
+    }
 
-  -- where the next branch of the split was begun
-  pub moved_on : (mid after : Derivation T) → mid.theory ≡ t → mid.stack ≡ k → mid.closed ≡ false → BranchBegun places_of book s true mid after → state_of places_of after ≡ next book (stack_splits k₀) (all_dropped (places_of t₀))
-  moved_on mid after theory stack working' h =
-      at s.branch h ∙ ap (λ ss. next book ss (all_dropped (places_of t₀))) (sym popped)
+module _ (book : Book) (s : OpenSplit) (ss : List OpenSplit) (ps : Places) where
+  -- into the split's next branch
+  pub next_branch : (b : Branch) → Some b ≡ by_branch s.branch (Some Branch.Second) (Some Branch.Third) None → next book (s ∷ ss) ps ≡ working (branch_from book (comparison_of (in_branch s b)) ps) (in_branch s b ∷ ss)
+  next_branch b = at s.branch
     where
-      from : places_of mid.theory ≡ all_dropped (places_of t₀)
-      from = ap places_of theory ∙ left_branch.dropped
+      to : Branch → State
+      to x = working (branch_from book (comparison_of (in_branch s x)) ps) (in_branch s x ∷ ss)
 
-      state_is : (c : Comparison) (b : Branch) → BranchEntered places_of book s c b mid after → state_of places_of after ≡ working (branch_from book c (all_dropped (places_of t₀))) (in_branch s b ∷ stack_splits k)
-      state_is c b e =
-          ap (λ x. cond x closed (working (places_of after.theory) (stack_splits after.stack))) (e.closed ∙ working')
-          ∙ ap (λ ps. working ps (stack_splits after.stack)) (e.state ∙ ap (branch_from book c) from)
-          ∙ ap (working (branch_from book c (all_dropped (places_of t₀)))) (e.stack ∙ ap (λ x. in_branch s b ∷ stack_splits x) stack)
+      at : (x : Branch) → Some b ≡ by_branch x (Some Branch.Second) (Some Branch.Third) None → by_branch x (to Branch.Second) (to Branch.Third) (next book ss (all_dropped ps)) ≡ to b
+      at Branch.First e = let same : Branch.Second ≡ b = cc in ap to same
+      at Branch.Second e = let same : Branch.Third ≡ b = cc in ap to same
+      at Branch.Third e = let z : ◌≡◌ {A = ℕ} 0 1 = cc in absurd (omega arith)
 
-      at : (b : Branch) → by_branch b (BranchEntered places_of book s (Comparison.Equal s.left s.right) Branch.Second mid after) (BranchEntered places_of book s (Comparison.Greater s.left s.right) Branch.Third mid after) ⊥ → state_of places_of after ≡ by_branch b (working (branch_from book (Comparison.Equal s.left s.right) (all_dropped (places_of t₀))) (in_branch s Branch.Second ∷ stack_splits k)) (working (branch_from book (Comparison.Greater s.left s.right) (all_dropped (places_of t₀))) (in_branch s Branch.Third ∷ stack_splits k)) (next book (stack_splits k) (all_dropped (all_dropped (places_of t₀))))
-      at Branch.First e = state_is (Comparison.Equal s.left s.right) Branch.Second e
-      at Branch.Second e = state_is (Comparison.Greater s.left s.right) Branch.Third e
-      at Branch.Third e = absurd e
+  -- for which there is room
+  pub next_room : (b : Branch) → Some b ≡ by_branch s.branch (Some Branch.Second) (Some Branch.Third) None → Ready book (s ∷ ss) ps → RoomTold book (comparison_of (in_branch s b)) ps
+  next_room b e ready = at s.branch e
+    where
+      at : (x : Branch) → Some b ≡ by_branch x (Some Branch.Second) (Some Branch.Third) None → RoomTold book (comparison_of (in_branch s b)) ps
+      at Branch.First f = let same : Branch.Second ≡ b = cc in subst (λ x. RoomTold book (comparison_of (in_branch s x)) ps) same ready.0
+      at Branch.Second f = let same : Branch.Third ≡ b = cc in subst (λ x. RoomTold book (comparison_of (in_branch s x)) ps) same ready.1
+      at Branch.Third f = let z : ◌≡◌ {A = ℕ} 0 1 = cc in absurd (omega arith)
 
-  -- where the split has no branch left
-  pub moved_out : (final : State) → s.branch ≡ Branch.Third → final ≡ next book (stack_splits k) (all_dropped (places_of t)) → final ≡ next book (stack_splits k₀) (all_dropped (places_of t₀))
-  moved_out final third h =
-      h
-      ∙ ap (λ ps. next book (stack_splits k) (all_dropped ps)) left_branch.dropped
-      ∙ ap (λ b. by_branch b (working (branch_from book (Comparison.Equal s.left s.right) (all_dropped (places_of t₀))) (in_branch s Branch.Second ∷ stack_splits k)) (working (branch_from book (Comparison.Greater s.left s.right) (all_dropped (places_of t₀))) (in_branch s Branch.Third ∷ stack_splits k)) (next book (stack_splits k) (all_dropped (all_dropped (places_of t₀))))) (sym third)
-      ∙ ap (λ ss. next book ss (all_dropped (places_of t₀))) (sym popped)
+  -- or out of the split, where it has no branch left
+  pub next_outer : None ≡ by_branch s.branch (Some Branch.Second) (Some Branch.Third) None → next book (s ∷ ss) ps ≡ next book ss (all_dropped ps)
+  next_outer = at s.branch
+    where
+      at : (x : Branch) → None ≡ by_branch x (Some Branch.Second) (Some Branch.Third) None → by_branch x (working (branch_from book (Comparison.Equal s.left s.right) ps) (in_branch s Branch.Second ∷ ss)) (working (branch_from book (Comparison.Greater s.left s.right) ps) (in_branch s Branch.Third ∷ ss)) (next book ss (all_dropped ps)) ≡ next book ss (all_dropped ps)
+      at Branch.First e = let z : ◌≡◌ {A = ℕ} 0 1 = cc in absurd (omega arith)
+      at Branch.Second e = let z : ◌≡◌ {A = ℕ} 0 1 = cc in absurd (omega arith)
+      at Branch.Third e = refl

@@ -1,5 +1,5 @@
 -- A whole run keeps the promise.
-use Rattle.std.proofs.Common.{◌≡◌, ℕ, List, [], length, refl, ◌∙◌, subst, arith}
+use Rattle.std.proofs.Common.{◌≡◌, ℕ, List, [], length, refl, ap, ◌∙◌, subst, arith}
 use Rattle.facts.specs.Valuations.{Valuation}
 use Rattle.facts.specs.declared.literal.Literal.{Literal}
 use Rattle.theory.specs.Places.{Places}
@@ -51,6 +51,6 @@ replayed places_of admits book sound c d ls lrs literals ss srs steps e claimed 
       no_false_seal = λ s same. kept.no_false_seal (sealed_closed (state_of places_of d) d.counts e s ended same).0;
       sealed_by = λ s same.
           let both = sealed_closed (state_of places_of d) d.counts e s ended same in
-          (kept.closed_by both.0, both.1.literals ∙ reached.counted_literals, both.1.steps ∙ reached.counted_steps, both.1.splits ∙ reached.counted_splits);
+          (kept.closed_by both.0, ap (λ c. c.literals) both.1 ∙ reached.counted_literals, ap (λ c. c.steps) both.1 ∙ reached.counted_steps, ap (λ c. c.splits) both.1 ∙ reached.counted_splits);
       seals = λ h. closed_sealed (state_of places_of d) d.counts e ended (kept.closes h);
     }

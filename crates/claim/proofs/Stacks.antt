@@ -1,23 +1,13 @@
 -- Changes of a stack of splits.
-use Rattle.std.proofs.Common.{◌≡◌, ◌+◌, ◌-◌, ◌<◌, [], ◌∷◌, reverse, length, get_or, take, set, sym, ap, ◌∙◌, subst, arith}
-use Rattle.std.proofs.lemmas.List.{length-take-le, length-reverse, reverse-append, take_more, take_more_set}
+use Rattle.std.proofs.Common.{◌≡◌, ◌<◌, [], ◌∷◌, ◌++◌, length, Ok, Err, OnOk, OnErr, Result, ap, ◌∙◌, arith}
+use Rattle.std.proofs.lemmas.List.{length-reverse, reverse-append}
+use Rattle.arrayvec.specs.ArrayVec.{ArrayVec, array_vec_len}
 use Rattle.claim.specs.Stacks.{stack_splits}
-use Rattle.claim.specs.declared.stack.Stack.{Stack}
 use Rattle.claim.specs.declared.step.OpenSplit.{OpenSplit}
 
-pub splits_count : (t : Stack) → length (stack_splits t) ≡ t.used
-splits_count t =
-    length-reverse (take t.used t.rows) ∙ length-take-le t.used t.rows (let long = t.all_rows in let few = t.within in omega arith)
+pub newest : (under over : ArrayVec OpenSplit) (s : OpenSplit) → over.items ≡ under.items ++ s ∷ [] → stack_splits over ≡ s ∷ stack_splits under
+newest under over s e = ap (λ xs. stack_splits (record { items = xs })) e ∙ reverse-append under.items (s ∷ [])
 
-pub splits_pushed : (t : Stack) (s : OpenSplit) → t.used < 8 → (length (stack_splits t) < 8) × (reverse (take (t.used + 1) (set t.rows t.used s)) ≡ s ∷ stack_splits t)
-splits_pushed t s few = (
-  subst (λ n. n < 8) (sym (splits_count t)) few,
-  ap reverse (take_more_set t.rows t.used s (let long = t.all_rows in omega arith)) ∙ reverse-append (take t.used t.rows) (s ∷ []),
-)
-
-pub splits_popped : (t : Stack) (x : OpenSplit) → 0 < t.used → stack_splits t ≡ get_or t.rows (t.used - 1) x ∷ reverse (take (t.used - 1) t.rows)
-splits_popped t x some =
-    let up : t.used ≡ (t.used - 1) + 1 = omega arith in
-    ap (λ n. reverse (take n t.rows)) up
-    ∙ ap reverse (take_more t.rows (t.used - 1) x (let long = t.all_rows in let few = t.within in omega arith))
-    ∙ reverse-append (take (t.used - 1) t.rows) (get_or t.rows (t.used - 1) x ∷ [])
+pub pushed : {E : Type 0} (before after : ArrayVec OpenSplit) (s : OpenSplit) (r : Result (Unit {0}) E) → length (stack_splits before) < 8 → OnOk r (after.items ≡ before.items ++ s ∷ []) → OnErr r (array_vec_len before ≡ 8) → stack_splits after ≡ s ∷ stack_splits before
+pushed before after s (Ok x) few ok full = newest before after s ok
+pushed before after s (Err e) few ok full = let same = length-reverse before.items in absurd (omega arith)

@@ -1,13 +1,12 @@
 -- What a refused telling says.
-use Rattle.std.proofs.Common.{◌≡◌, ℕ, Some, None, Option, refl, ap, inl, inr, arith}
+use Rattle.std.proofs.Common.{◌≡◌, ℕ, ◌⊎◌, Some, None, MatchOption, Option, sym, refl, ◌∙◌, subst, inl, inr, arith}
+use Rattle.facts.specs.declared.fact.Comparison.{Comparison}
+use Rattle.facts.specs.declared.name.Name.{Name}
 use Rattle.facts.specs.declared.refusal.Refusal.{Refusal}
 use Rattle.theory.specs.Places.{Places}
 use Rattle.theory.specs.Rules.{Book, Wanted, Full, TellingAnswer, telling_wanted}
 use Rattle.theory.proofs.Pairs.{telling_room}
-use Rattle.facts.specs.declared.fact.Comparison.{Comparison}
-use Rattle.facts.specs.declared.name.Name.{Name}
 use Rattle.claim.specs.Derived.{SplitAnswer}
-use Rattle.claim.specs.declared.derivation.Derivation.{Derivation}
 
 pub refused_full : (ps : Places) (w : Wanted) (e : Refusal) → TellingAnswer ps w (Some e) → Full ps w × (e ≡ Refusal.TableFull)
 refused_full ps w e h = go (Some e) h refl
@@ -16,17 +15,17 @@ refused_full ps w e h = go (Some e) h refl
     go o (TellingAnswer.taken k) same = let z : ◌≡◌ {A = ℕ} 0 1 = cc in absurd (omega arith)
     go o (TellingAnswer.full k) same = (k, cc)
 
--- with the theory that it had, a derivation is as it was
-pub same_derivation : {T : Type 0} (d : Derivation T) (t : T) → t ≡ d.theory → ◌≡◌ {A = Derivation T} (record { theory = t; stack = d.stack; closed = d.closed; counts = d.counts }) d
-same_derivation {T} d t e = ap (λ x. record { theory = x; stack = d.stack; closed = d.closed; counts = d.counts }) e
-
+-- each telling is asked where the ones before it are not refused
 module _ (book : Book) (ps : Places) (n m : Name) where
-  pub less_full : (r : Refusal) → TellingAnswer ps (telling_wanted book (Comparison.Less n m)) (Some r) → SplitAnswer book ps n m (Some r)
-  less_full r h = let full = refused_full ps (telling_wanted book (Comparison.Less n m)) r h in (full.1, inl full.0)
+  full_at : (k : Comparison) (r : Refusal) → TellingAnswer ps (telling_wanted book k) (Some r) → (Full ps (telling_wanted book k) → Full ps (telling_wanted book (Comparison.Less n m)) ⊎ (Full ps (telling_wanted book (Comparison.Equal n m)) ⊎ Full ps (telling_wanted book (Comparison.Greater n m)))) → SplitAnswer book ps n m (Some r)
+  full_at k r h to = let full = refused_full ps (telling_wanted book k) r h in (full.1, to full.0)
 
-  pub equal_full : (r : Refusal) → TellingAnswer ps (telling_wanted book (Comparison.Equal n m)) (Some r) → SplitAnswer book ps n m (Some r)
-  equal_full r h = let full = refused_full ps (telling_wanted book (Comparison.Equal n m)) r h in (full.1, inr (inl full.0))
-
-  pub last_telling : TellingAnswer ps (telling_wanted book (Comparison.Less n m)) None → TellingAnswer ps (telling_wanted book (Comparison.Equal n m)) None → (o : Option Refusal) → TellingAnswer ps (telling_wanted book (Comparison.Greater n m)) o → SplitAnswer book ps n m o
-  last_telling h k None l = (telling_room ps _ h, telling_room ps _ k, telling_room ps _ l)
-  last_telling h k (Some r) l = let full = refused_full ps (telling_wanted book (Comparison.Greater n m)) r l in (full.1, inr (inr full.0))
+  pub told_in_turn : (less equal greater : Option Refusal) → TellingAnswer ps (telling_wanted book (Comparison.Less n m)) less → MatchOption less (TellingAnswer ps (telling_wanted book (Comparison.Equal n m)) equal) (λ r. equal ≡ Some r) → MatchOption equal (TellingAnswer ps (telling_wanted book (Comparison.Greater n m)) greater) (λ r. greater ≡ Some r) → SplitAnswer book ps n m greater
+  told_in_turn (Some r) equal greater h k l = at equal k l
+    where
+      at : (e : Option Refusal) → e ≡ Some r → MatchOption e (TellingAnswer ps (telling_wanted book (Comparison.Greater n m)) greater) (λ x. greater ≡ Some x) → SplitAnswer book ps n m greater
+      at None e l = let z : ◌≡◌ {A = ℕ} 0 1 = cc in absurd (omega arith)
+      at (Some x) e l = subst (SplitAnswer book ps n m) (sym e ∙ sym l) (full_at (Comparison.Less n m) r h inl)
+  told_in_turn None (Some r) greater h k l = subst (SplitAnswer book ps n m) (sym l) (full_at (Comparison.Equal n m) r k (λ f. inr (inl f)))
+  told_in_turn None None (Some r) h k l = full_at (Comparison.Greater n m) r l (λ f. inr (inr f))
+  told_in_turn None None None h k l = (telling_room ps _ h, telling_room ps _ k, telling_room ps _ l)

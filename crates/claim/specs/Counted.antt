@@ -1,5 +1,7 @@
 -- Counts of what a claim has taken.
-use Rattle.std.specs.Prelude.{◌≡◌, ℕ, ◌+◌, Some, None, Option}
+use Rattle.std.specs.Prelude.{◌≡◌, ℕ, ◌+◌, ◌<◌, ◌≤◌, Some, None, Ok, Err, Option, Result}
+use Rattle.facts.specs.declared.refusal.Refusal.{Refusal}
+use Rattle.claim.specs.Calls.{most_calls}
 use Rattle.claim.specs.declared.counts.Counts.{Counts}
 use Rattle.claim.specs.declared.step.Step.{Step}
 
@@ -20,3 +22,8 @@ abbrev pub Counted : Option Step → Counts → Counts → Type 0
 Counted None before after = after ≡ before
 Counted (Some (Step.Infer a i)) before after = StepCounted 0 before after
 Counted (Some (Step.Split n m)) before after = StepCounted 1 before after
+
+-- the counts with one call more, unless no more are taken
+abbrev pub CallCounted : (Counts → Counts → Type 0) → Counts → Result Counts Refusal → Type 0
+CallCounted Taken before (Ok after) = place_of before < most_calls × Taken before after
+CallCounted Taken before (Err r) = most_calls ≤ place_of before × (r ≡ Refusal.TooManyCalls)

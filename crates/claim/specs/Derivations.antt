@@ -1,10 +1,11 @@
 -- What a derivation is, and what finishes one that was begun.
-use Rattle.std.specs.Prelude.{◌≡◌, ℕ, suc, ◌<◌, cond, List, [], ◌∷◌, ◌++◌, length, ◌==◌}
+use Rattle.std.specs.Prelude.{◌≡◌, ℕ, suc, ◌<◌, cond, List, [], ◌∷◌, ◌++◌, length, ◌==◌, Ok, Err, Result}
 use Rattle.std.specs.Option.{option_map}
 use Rattle.facts.specs.declared.fact.Comparison.{Comparison}
+use Rattle.facts.specs.declared.fault.Cause.{Cause}
 use Rattle.facts.specs.declared.name.Name.{Name}
 use Rattle.theory.specs.Places.{Places, opened, dropped}
-use Rattle.theory.specs.Rules.{Book, telling_wanted, with_wanted, Room, outcome_at, changed}
+use Rattle.theory.specs.Rules.{Book, telling_wanted, with_wanted, Room, outcome_at, changed_by}
 use Rattle.theory.specs.declared.inference.Inference.{Inference}
 use Rattle.theory.specs.declared.inference.Outcome.{Outcome}
 use Rattle.claim.specs.declared.step.Branch.{Branch}
@@ -22,8 +23,8 @@ all_opened ps a = option_map opened (ps a)
 abbrev pub all_dropped : Places → Places
 all_dropped ps a = option_map dropped (ps a)
 
-abbrev pub changed_at : ℕ → Outcome → Places → Places
-changed_at a o ps b = cond (b == a) (option_map (changed o) (ps b)) (ps b)
+abbrev pub changed_at : ℕ → Result Outcome Cause → Places → Places
+changed_at a r ps b = cond (b == a) (option_map (changed_by r) (ps b)) (ps b)
 
 -- where a branch of a split begins: a level more, in which its comparison is told
 abbrev pub branch_from : Book → Comparison → Places → Places
@@ -36,12 +37,12 @@ RoomTold book k ps = Room ps (telling_wanted book k)
 -- ---- derivations
 
 -- an outcome that leaves a fact
-abbrev pub LeavesFact : Outcome → Type 0
-LeavesFact (Outcome.Current f) = Unit {0}
-LeavesFact (Outcome.Pushed f) = Unit {0}
-LeavesFact (Outcome.Equal n m) = ⊥
-LeavesFact Outcome.Contradiction = ⊥
-LeavesFact (Outcome.Refused c) = ⊥
+abbrev pub LeavesFact : Result Outcome Cause → Type 0
+LeavesFact (Ok (Outcome.Current f)) = Unit {0}
+LeavesFact (Ok (Outcome.Pushed f)) = Unit {0}
+LeavesFact (Ok (Outcome.Equal n m)) = ⊥
+LeavesFact (Ok Outcome.Contradiction) = ⊥
+LeavesFact (Err c) = ⊥
 
 -- the most splits that are open at a time
 abbrev pub most_splits : ℕ
@@ -50,9 +51,9 @@ most_splits = 8
 -- a derivation from a state inside so many open splits, with its writing, within the limits of
 -- facts and splits; opening a level adds no fact, so a split's tellings need room where it stands
 pub data Derives (book : Book) : ℕ → Places → List Step → Type 0 where
-  contradiction : {d : ℕ} {ps : Places} (a : ℕ) (i : Inference) → outcome_at book ps a i ≡ Outcome.Contradiction → Derives book d ps (Step.Infer a i ∷ [])
+  contradiction : {d : ℕ} {ps : Places} (a : ℕ) (i : Inference) → outcome_at book ps a i ≡ Ok Outcome.Contradiction → Derives book d ps (Step.Infer a i ∷ [])
   fact : {d : ℕ} {ps : Places} {w : List Step} (a : ℕ) (i : Inference) → LeavesFact (outcome_at book ps a i) → Derives book d (changed_at a (outcome_at book ps a i) ps) w → Derives book d ps (Step.Infer a i ∷ w)
-  equality : {d : ℕ} {ps : Places} {w : List Step} (a : ℕ) (i : Inference) (n m : Name) → outcome_at book ps a i ≡ Outcome.Equal n m → RoomTold book (Comparison.Equal n m) ps → Derives book d (told book (Comparison.Equal n m) ps) w → Derives book d ps (Step.Infer a i ∷ w)
+  equality : {d : ℕ} {ps : Places} {w : List Step} (a : ℕ) (i : Inference) (n m : Name) → outcome_at book ps a i ≡ Ok (Outcome.Equal n m) → RoomTold book (Comparison.Equal n m) ps → Derives book d (told book (Comparison.Equal n m) ps) w → Derives book d ps (Step.Infer a i ∷ w)
   split : {d : ℕ} {ps : Places} {first second third : List Step} (n m : Name) → d < most_splits → RoomTold book (Comparison.Less n m) ps → RoomTold book (Comparison.Equal n m) ps → RoomTold book (Comparison.Greater n m) ps → Derives book (suc d) (branch_from book (Comparison.Less n m) ps) first → Derives book (suc d) (branch_from book (Comparison.Equal n m) ps) second → Derives book (suc d) (branch_from book (Comparison.Greater n m) ps) third → Derives book d ps (Step.Split n m ∷ (first ++ (second ++ third)))
 
 -- ---- what is left to do
@@ -97,6 +98,10 @@ abbrev pub by_branch {ℓ} : {X : Type ℓ} → Branch → X → X → X → X
 by_branch Branch.First x y z = x
 by_branch Branch.Second x y z = y
 by_branch Branch.Third x y z = z
+
+-- what is told in the branch of a split that is worked on
+abbrev pub comparison_of : OpenSplit → Comparison
+comparison_of s = by_branch s.branch (Comparison.Less s.left s.right) (Comparison.Equal s.left s.right) (Comparison.Greater s.left s.right)
 
 abbrev pub in_branch : OpenSplit → Branch → OpenSplit
 in_branch s b = record { left = s.left; right = s.right; branch = b }

@@ -1,19 +1,20 @@
 -- What a derivation stands for.
-use Rattle.std.specs.Prelude.{◌≡◌, ℕ, Bool, true, false, cond, ◌⊎◌, List, ◌∷◌, length, Some, None, Ok, Err, Option}
+use Rattle.std.specs.Prelude.{◌≡◌, ◌<◌, cond, ◌⊎◌, List, ◌∷◌, length, Some, None, Ok, Err, OnErr, Option, Result}
+use Rattle.facts.specs.declared.fault.Cause.{Cause}
 use Rattle.facts.specs.declared.name.Name.{Name}
 use Rattle.facts.specs.declared.refusal.Refusal.{Refusal}
 use Rattle.facts.specs.declared.fact.Comparison.{Comparison}
 use Rattle.theory.specs.Rules.{Book, Full, telling_wanted}
-use Rattle.claim.specs.Calls.{Answer, StepCall, because, fault_of, Levelled}
-use Rattle.claim.specs.Counted.{place_of, StepCounted, Counted}
+use Rattle.claim.specs.Calls.{Answer, StepCall, answer_of, most_calls, Levelled}
+use Rattle.claim.specs.Counted.{place_of, Counted}
 use Rattle.theory.specs.Places.{Places}
-use Rattle.claim.specs.Derivations.{State, closed, working, RoomTold, told, branch_from, by_branch, in_branch}
+use Rattle.claim.specs.Derivations.{State, closed, working, open_splits, RoomTold, branch_from, comparison_of}
 use Rattle.claim.specs.Histories.{LiteralsSent, StepsSent, splits_in}
+use Rattle.claim.specs.Sent.{StepChecked, step_address}
 use Rattle.claim.specs.Stacks.{stack_splits}
 use Rattle.claim.specs.declared.opening.Claim.{Claim}
 use Rattle.facts.specs.declared.literal.Literal.{Literal}
 use Rattle.claim.specs.declared.derivation.Derivation.{Derivation}
-use Rattle.claim.specs.declared.step.Branch.{Branch}
 use Rattle.claim.specs.declared.sent.SentStep.{SentStep}
 use Rattle.claim.specs.declared.step.OpenSplit.{OpenSplit}
 use Rattle.claim.specs.declared.step.Step.{Step}
@@ -21,33 +22,26 @@ use Rattle.claim.specs.declared.step.Step.{Step}
 abbrev pub state_of : {T : Type 0} → (T → Places) → Derivation T → State
 state_of places d = cond d.closed closed (working (places d.theory) (stack_splits d.stack))
 
--- the branch after the one that a split was in was begun, or there is none
-pub record BranchEntered {T : Type 0} (places : T → Places) (book : Book) (s : OpenSplit) (k : Comparison) (b : Branch) (before after : Derivation T) : Type 0 where
-  pub state : places after.theory ≡ branch_from book k (places before.theory)
-  pub stack : stack_splits after.stack ≡ in_branch s b ∷ stack_splits before.stack
-  pub closed : after.closed ≡ before.closed
+-- a branch of a split was begun
+abbrev pub BranchBegun : {T : Type 0} → (T → Places) → Book → OpenSplit → Derivation T → Derivation T → Type 0
+BranchBegun places book s before after =
+    (places after.theory ≡ branch_from book (comparison_of s) (places before.theory))
+    × (stack_splits after.stack ≡ s ∷ stack_splits before.stack)
+
+-- the answer to a step, from why it is refused, if it is
+abbrev pub answer_at : {T : Type 0} → (T → Places) → Derivation T → SentStep → Result (Unit {0}) Cause → Answer
+answer_at places d s r = answer_of r (step_address s) (place_of d.counts) (open_splits (state_of places d))
+
+-- the step, if it is not refused
+abbrev pub unless_refused : Result (Unit {0}) Cause → Step → Option Step
+unless_refused (Ok x) t = Some t
+unless_refused (Err c) t = None
+
+-- a step that is not counted yet: a call's, where calls are left
+pub record Moved {T : Type 0} (places : T → Places) (book : Book) (t : Step) (r : Result (Unit {0}) Cause) (before after : Derivation T) : Type 0 where
+  pub call : (s : SentStep) → StepChecked s (Ok t) → place_of before.counts < most_calls → StepCall book (place_of before.counts) s (state_of places before) (answer_at places before s r) (unless_refused r t) (state_of places after)
   pub counts : after.counts ≡ before.counts
-
-abbrev pub BranchBegun : {T : Type 0} → (T → Places) → Book → OpenSplit → Bool → Derivation T → Derivation T → Type 0
-BranchBegun places book s true before after =
-    by_branch s.branch
-    (BranchEntered places book s (Comparison.Equal s.left s.right) Branch.Second before after)
-    (BranchEntered places book s (Comparison.Greater s.left s.right) Branch.Third before after)
-    ⊥
-BranchBegun places book s false before after = (s.branch ≡ Branch.Third) × (after ≡ before)
-
--- an equality was told at every address, or some address has no room for it
-abbrev pub HandedOn : {T : Type 0} → (T → Places) → Book → ℕ → Name → Name → Answer → Derivation T → Derivation T → Type 0
-HandedOn places book a n m (Ok x) before after =
-    RoomTold book (Comparison.Equal n m) (places before.theory)
-    × (places after.theory ≡ told book (Comparison.Equal n m) (places before.theory))
-    × (after.stack ≡ before.stack)
-    × (after.closed ≡ before.closed)
-    × StepCounted 0 before.counts after.counts
-HandedOn places book a n m (Err f) before after =
-    Full (places before.theory) (telling_wanted book (Comparison.Equal n m))
-    × (f ≡ fault_of (because Refusal.TableFull 0) a (place_of before.counts) (length (stack_splits before.stack)))
-    × (after ≡ before)
+  pub same : OnErr r (after ≡ before)
 
 -- a refused call leaves all as it was
 abbrev pub SameUnlessTaken : {T : Type 0} → Option Step → Derivation T → Derivation T → Type 0

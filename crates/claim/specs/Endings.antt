@@ -6,10 +6,8 @@ use Rattle.claim.specs.declared.seal.Ending.{Ending}
 use Rattle.claim.specs.declared.seal.Seal.{Seal}
 use Rattle.claim.specs.declared.step.OpenSplit.{OpenSplit}
 
-pub record SealedWith (c : Counts) (s : Seal) : Type 0 where
-  pub literals : s.literals ≡ c.literals
-  pub steps : s.steps ≡ c.steps
-  pub splits : s.splits ≡ c.splits
+abbrev pub SealedWith : Counts → Seal → Type 0
+SealedWith c s = s.counts ≡ c
 
 -- the branches that are not begun, of all open splits
 abbrev pub unbegun : List OpenSplit → ℕ

@@ -4,7 +4,6 @@ pub mod Derivations
 pub mod Derived
 pub mod Endings
 pub mod Histories
-pub mod Popped
 pub mod Replays
 pub mod Sent
 pub mod Sheets

@@ -25,5 +25,5 @@ pub record Replayed (admits : Valuation → Type 0) (book : Book) (ls : List Lit
   -- no false seal
   pub no_false_seal : (s : Seal) → e ≡ Ending.Sealed s → (v : Valuation) → admits v → AllLiteralsTrue v literals → ⊥
   -- a seal exactly if the steps taken are the whole writing of a derivation, with its counts
-  pub sealed_by : (s : Seal) → e ≡ Ending.Sealed s → Derives book 0 places steps × (s.literals ≡ length literals) × (s.steps ≡ length steps) × (s.splits ≡ splits_in steps)
+  pub sealed_by : (s : Seal) → e ≡ Ending.Sealed s → Derives book 0 places steps × (s.counts.literals ≡ length literals) × (s.counts.steps ≡ length steps) × (s.counts.splits ≡ splits_in steps)
   pub seals : Derives book 0 places steps → (s : Seal) × (e ≡ Ending.Sealed s)

@@ -1,5 +1,6 @@
 -- The ranges of a step's fields, and the step that good fields stand for.
 use Rattle.std.specs.Prelude.{◌≡◌, ℕ, Bool, cond, ◌&&◌, List, [], ◌∷◌, Some, None, Ok, Err, Result, nat_le, unsigned_abs}
+use Rattle.facts.specs.declared.fault.BadField.{BadField}
 use Rattle.facts.specs.Fields.{Field, field, first_bad, term_fields, sent}
 use Rattle.theory.specs.declared.inference.Inference.{Inference}
 use Rattle.theory.specs.declared.inference.Position.{Position}
@@ -64,6 +65,6 @@ StandsFor (SentStep.Cut a) x = x ≡ Step.Infer a Inference.Cut
 StandsFor (SentStep.Push a) x = x ≡ Step.Infer a Inference.Push
 StandsFor (SentStep.Split first second) x = (n : Name) × (m : Name) × (x ≡ Step.Split n m) × (n.index ≡ first) × (m.index ≡ second)
 
-abbrev pub StepChecked : SentStep → Result Step ℕ → Type 0
+abbrev pub StepChecked : SentStep → Result Step BadField → Type 0
 StepChecked s (Ok t) = (first_bad (step_fields s) ≡ None) × StandsFor s t
-StepChecked s (Err b) = first_bad (step_fields s) ≡ Some b
+StepChecked s (Err bad) = first_bad (step_fields s) ≡ Some bad.byte

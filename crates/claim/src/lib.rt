@@ -8,7 +8,6 @@ mod run;
 mod seal;
 mod sent;
 mod sheet;
-mod stack;
 mod step;
 
 pub use counts::Counts;

@@ -21,6 +21,8 @@ pub struct Transcript {
     pub ending: Ending,
 }
 
+// Not one function with `send_steps`: a closure that calls a claim changes it, and no contract says
+// what many such calls leave.
 fn send_literals<T: Theory>(
     heap: Global,
     claim: &mut Claim<T>,

@@ -1,6 +1,5 @@
 // What a closed claim ends in, and the sheet that seals are entered on.
 ghost use Rattle.std.specs.Prelude.{◌≡◌};
-ghost use Rattle.claim.specs.Endings.{SealedWith};
 
 use crate::counts::Counts;
 
@@ -8,12 +7,11 @@ use crate::counts::Counts;
 // splits. Only the end of a derivation makes one, and it can be entered once.
 #[derive(Drop)]
 pub struct Seal {
-    literals: u32,
-    steps: u32,
-    splits: u32,
+    counts: Counts,
 }
 
 // How a derivation ends: sealed, or with so many branches left.
+// An open ending is no error, so this is no `Result`.
 #[derive(Drop)]
 pub enum Ending {
     Sealed(Seal),
@@ -21,31 +19,33 @@ pub enum Ending {
 }
 
 impl Seal {
-    pub(crate) fn new(counts: &Counts) -> Seal
-        ensures { SealedWith counts.now result }
+    pub(crate) fn new(counts: Counts) -> Seal
+        ensures { result.counts ≡ counts }
     {
-        Seal {
-            literals: counts.literals(),
-            steps: counts.steps(),
-            splits: counts.splits(),
-        }
+        Seal { counts }
+    }
+
+    pub(crate) fn counts(&self) -> Counts
+        ensures { result ≡ self.now.counts }
+    {
+        self.counts
     }
 
     pub fn literals(&self) -> u32
-        ensures { result ≡ self.now.literals }
+        ensures { result ≡ self.now.counts.literals }
     {
-        self.literals
+        self.counts.literals()
     }
 
     pub fn steps(&self) -> u32
-        ensures { result ≡ self.now.steps }
+        ensures { result ≡ self.now.counts.steps }
     {
-        self.steps
+        self.counts.steps()
     }
 
     pub fn splits(&self) -> u32
-        ensures { result ≡ self.now.splits }
+        ensures { result ≡ self.now.counts.splits }
     {
-        self.splits
+        self.counts.splits()
     }
 }

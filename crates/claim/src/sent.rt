@@ -3,7 +3,7 @@ ghost use Rattle.std.specs.Prelude.{◌≡◌, ◌<◌, ◌≤◌, MatchOption};
 ghost use Rattle.claim.specs.Sent.{StepChecked, flag_byte, position_byte, step_address};
 
 use crate::step::Step;
-use facts::{Name, SentTerm};
+use facts::{BadField, Name, SentTerm};
 use theory::{Factor, Inference, Position};
 
 // An address and a fact's number may be any byte; what is not there is refused later.
@@ -29,6 +29,7 @@ pub enum SentStep {
     Split(u8, u8),
 }
 
+// A flag's byte is 0 or 1. `bool` is no type of ours, so this is no `TryFrom`.
 fn flag(byte: u8) -> Option<bool>
     ensures { MatchOption result (1 < byte) (λ b. flag_byte b ≡ byte) }
 {
@@ -39,8 +40,9 @@ fn flag(byte: u8) -> Option<bool>
     }
 }
 
+// `Position` is a type of `theory`, which knows no bytes, so this is no `TryFrom`.
 fn position(byte: u8) -> Option<Position>
-    ensures { MatchOption result ((1 ≤ byte → 2 < byte)) (λ p. position_byte p ≡ byte) }
+    ensures { MatchOption result (1 ≤ byte → 2 < byte) (λ p. position_byte p ≡ byte) }
 {
     match byte {
         1 => Some(Position::First),
@@ -55,24 +57,24 @@ impl SentStep {
         ensures { result ≡ step_address self }
     {
         match self {
-            SentStep::Reflexivity(address, _) => address,
-            SentStep::Transitivity(address, _, _) => address,
-            SentStep::Congruence(address, _, _, _) => address,
-            SentStep::Clash(address, _) => address,
-            SentStep::Propagate(address) => address,
-            SentStep::Zero(address) => address,
-            SentStep::Add(address, _, _) => address,
-            SentStep::Antisymmetry(address, _, _, _) => address,
-            SentStep::Falsify(address) => address,
-            SentStep::Strengthen(address) => address,
-            SentStep::Cut(address) => address,
-            SentStep::Push(address) => address,
+            SentStep::Reflexivity(address, _)
+            | SentStep::Transitivity(address, _, _)
+            | SentStep::Congruence(address, _, _, _)
+            | SentStep::Clash(address, _)
+            | SentStep::Propagate(address)
+            | SentStep::Zero(address)
+            | SentStep::Add(address, _, _)
+            | SentStep::Antisymmetry(address, _, _, _)
+            | SentStep::Falsify(address)
+            | SentStep::Strengthen(address)
+            | SentStep::Cut(address)
+            | SentStep::Push(address) => address,
             SentStep::Split(_, _) => 0,
         }
     }
 
-    // The step, or the byte of its first bad field in its record.
-    pub fn check(self) -> Result<Step, u8>
+    // The step, or its first bad field.
+    pub fn check(self) -> Result<Step, BadField>
         ensures { StepChecked self result }
     {
         match self {
@@ -99,65 +101,47 @@ impl SentStep {
     }
 }
 
-fn check_reflexivity(address: u8, term: SentTerm) -> Result<Step, u8>
+fn check_reflexivity(address: u8, term: SentTerm) -> Result<Step, BadField>
     ensures { StepChecked (SentStep.Reflexivity address term) result }
 {
-    match term.check() {
-        Ok(term) => Ok(Step::Infer(address, Inference::Reflexivity(term))),
-        Err(byte) => Err(2 + byte),
-    }
+    let term = term.check().map_err(|bad| BadField { byte: 2 + bad.byte })?;
+    Ok(Step::Infer(address, Inference::Reflexivity(term)))
 }
 
-fn check_transitivity(address: u8, fact: u8, turned: u8) -> Result<Step, u8>
+fn check_transitivity(address: u8, fact: u8, turned: u8) -> Result<Step, BadField>
     ensures { StepChecked (SentStep.Transitivity address fact turned) result }
 {
-    let Some(turned) = flag(turned) else {
-        return Err(3);
-    };
+    let turned = flag(turned).ok_or(BadField { byte: 3 })?;
     Ok(Step::Infer(address, Inference::Transitivity(fact, turned)))
 }
 
-fn check_congruence(address: u8, fact: u8, at: u8, turned: u8) -> Result<Step, u8>
+fn check_congruence(address: u8, fact: u8, at: u8, turned: u8) -> Result<Step, BadField>
     ensures { StepChecked (SentStep.Congruence address fact at turned) result }
 {
-    let Some(at) = position(at) else {
-        return Err(3);
-    };
-    let Some(turned) = flag(turned) else {
-        return Err(4);
-    };
+    let at = position(at).ok_or(BadField { byte: 3 })?;
+    let turned = flag(turned).ok_or(BadField { byte: 4 })?;
     Ok(Step::Infer(address, Inference::Congruence(fact, at, turned)))
 }
 
-fn check_add(address: u8, fact: u8, factor: i32) -> Result<Step, u8>
+fn check_add(address: u8, fact: u8, factor: i32) -> Result<Step, BadField>
     ensures { StepChecked (SentStep.Add address fact factor) result }
 {
-    let Some(factor) = Factor::new(factor) else {
-        return Err(3);
-    };
+    let factor = Factor::new(factor).ok_or(BadField { byte: 3 })?;
     Ok(Step::Infer(address, Inference::Add(fact, factor)))
 }
 
-fn check_antisymmetry(address: u8, fact: u8, first: u8, second: u8) -> Result<Step, u8>
+fn check_antisymmetry(address: u8, fact: u8, first: u8, second: u8) -> Result<Step, BadField>
     ensures { StepChecked (SentStep.Antisymmetry address fact first second) result }
 {
-    let Some(first) = Name::new(first) else {
-        return Err(3);
-    };
-    let Some(second) = Name::new(second) else {
-        return Err(4);
-    };
+    let first = Name::new(first).ok_or(BadField { byte: 3 })?;
+    let second = Name::new(second).ok_or(BadField { byte: 4 })?;
     Ok(Step::Infer(address, Inference::Antisymmetry(fact, first, second)))
 }
 
-fn check_split(first: u8, second: u8) -> Result<Step, u8>
+fn check_split(first: u8, second: u8) -> Result<Step, BadField>
     ensures { StepChecked (SentStep.Split first second) result }
 {
-    let Some(first) = Name::new(first) else {
-        return Err(1);
-    };
-    let Some(second) = Name::new(second) else {
-        return Err(2);
-    };
+    let first = Name::new(first).ok_or(BadField { byte: 1 })?;
+    let second = Name::new(second).ok_or(BadField { byte: 2 })?;
     Ok(Step::Split(first, second))
 }

@@ -2,7 +2,8 @@ ghost use Rattle.std.specs.Prelude.{◌≡◌, ◌≤◌, length};
 
 pub mod methods;
 
-// The counts of a seal that was entered.
+// The counts of a seal that was entered. Not `Counts` itself: anyone may make a line, and only a claim
+// makes counts.
 #[derive(Clone, Copy)]
 pub struct Line {
     pub literals: u32,
@@ -11,6 +12,7 @@ pub struct Line {
 }
 
 // A sheet of 64 lines, on which seals are entered.
+// It is `Copy`, which an `ArrayVec` of lines would not be.
 #[derive(Clone, Copy)]
 pub struct Sheet {
     lines: [Line; 64],

@@ -29,17 +29,16 @@ pub(crate) fn impossible() -> Literal {
     row(Relation::NonNegative, -1, 0)
 }
 
-// A refusal's number, detail, place and depth; all 0 where the call was taken.
-pub(crate) fn told(answer: Result<(), CallFault>) -> (u8, u8, u32, u8) {
-    match answer {
-        Ok(_) => (0, 0, 0, 0),
-        Err(fault) => (
+// A refusal's number, detail, place and depth.
+pub(crate) fn told(answer: Result<(), CallFault>) -> Option<(u8, u8, u32, u8)> {
+    answer.err().map(|fault| {
+        (
             fault.cause.refusal.number(),
             fault.cause.detail,
             fault.place,
             fault.depth,
-        ),
-    }
+        )
+    })
 }
 
 // The steps that find a contradiction in a fact c >= 0 or c > 0.

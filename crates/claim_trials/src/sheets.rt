@@ -16,6 +16,7 @@ fn sealed() -> Result<Seal, Fail> {
 #[test]
 fn a_sheet_has_64_lines(rt: HostRuntime) -> Result<(), Fail> {
     let mut sheet = Sheet::new();
+    // the numbers are what is tested, and stand in no list
     for line in 0..64 {
         match sheet.enter(sealed()?) {
             Ok(number) => assert_eq!(rt; number, line),

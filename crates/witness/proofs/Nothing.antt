@@ -27,7 +27,3 @@ some_valuation = record { denominator = 1; positive = omega arith; numerator = �
 
 pub never : (ls : List Literal) → Excluded (λ _. Unit {0}) no_rules ls → ⊥
 never ls e = e.none_true some_valuation tt (subst (AllLiteralsTrue some_valuation) (sym (none_taken ls e.answers e.places e.taken e.sent)) tt)
-
-pub not_true : (b : Bool) → (b ≡ true → ⊥) → b ≡ false
-not_true true h = absurd (h refl)
-not_true false h = refl

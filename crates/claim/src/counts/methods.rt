@@ -1,7 +1,9 @@
-ghost use Rattle.std.specs.Prelude.{◌≡◌, ◌+◌, ◌<◌, nat_le};
-ghost use Rattle.claim.specs.Counted.{place_of, NothingCounted, LiteralCounted, StepCounted};
+ghost use Rattle.std.specs.Prelude.{◌≡◌, ◌+◌, ◌<◌, nat_le, Some};
+ghost use Rattle.claim.specs.Counted.{place_of, NothingCounted, LiteralCounted, Counted, CallCounted};
 
 use super::Counts;
+use crate::step::Step;
+use facts::Refusal;
 
 // How many literals and steps a claim takes together.
 pub const MOST_CALLS: u32 = 50_000;
@@ -45,28 +47,38 @@ impl Counts {
     pub fn is_full(&self) -> bool
         ensures { result ≡ nat_le 50_000 (place_of self.now) }
     {
-        self.literals + self.steps >= MOST_CALLS
+        self.place() >= MOST_CALLS
     }
 
-    pub(crate) fn add_literal(&mut self)
-        requires { place_of self.old < 50_000 }
-        ensures { LiteralCounted self.old self.new }
+    // The counts with one literal more.
+    pub(crate) fn with_literal(self) -> Result<Counts, Refusal>
+        ensures { CallCounted LiteralCounted self result }
     {
-        self.literals += 1;
+        if self.is_full() {
+            return Err(Refusal::TooManyCalls);
+        }
+        Ok(Counts {
+            literals: self.literals + 1,
+            steps: self.steps,
+            splits: self.splits,
+        })
     }
 
-    pub(crate) fn add_step(&mut self)
-        requires { place_of self.old < 50_000 }
-        ensures { StepCounted 0 self.old self.new }
+    // The counts with one step more.
+    pub(crate) fn with_step(self, step: Step) -> Result<Counts, Refusal>
+        ensures { CallCounted (Counted (Some step)) self result }
     {
-        self.steps += 1;
-    }
-
-    pub(crate) fn add_split(&mut self)
-        requires { place_of self.old < 50_000 }
-        ensures { StepCounted 1 self.old self.new }
-    {
-        self.steps += 1;
-        self.splits += 1;
+        if self.is_full() {
+            return Err(Refusal::TooManyCalls);
+        }
+        let splits = match step {
+            Step::Infer(_, _) => 0,
+            Step::Split(_, _) => 1,
+        };
+        Ok(Counts {
+            literals: self.literals,
+            steps: self.steps + 1,
+            splits: self.splits + splits,
+        })
     }
 }

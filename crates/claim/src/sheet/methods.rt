@@ -1,9 +1,11 @@
-ghost use Rattle.std.specs.Prelude.{◌≡◌, []};
-ghost use Rattle.claim.specs.Sheets.{Entered, sheet_lines};
+ghost use Rattle.std.specs.Prelude.{◌≡◌, [], Some};
+ghost use Rattle.claim.specs.Sheets.{Entered, sheet_lines, counts_line, line_of, line_text};
 
 use super::{Line, Sheet};
+use crate::counts::Counts;
 use crate::seal::Seal;
 use facts::Refusal;
+use std::fmt;
 
 // How many seals a sheet takes.
 pub const MOST_LINES: usize = 64;
@@ -13,6 +15,39 @@ pub const MOST_LINES: usize = 64;
 pub struct Unentered {
     pub seal: Seal,
     pub refusal: Refusal,
+}
+
+impl From<Counts> for Line {
+    ghost from_gives = { λ counts line. line ≡ counts_line counts };
+
+    fn from(counts: Counts) -> Line {
+        Line {
+            literals: counts.literals(),
+            steps: counts.steps(),
+            splits: counts.splits(),
+        }
+    }
+}
+
+impl From<&Seal> for Line {
+    ghost from_gives = { λ seal line. line ≡ line_of seal.now };
+
+    fn from(seal: &Seal) -> Line {
+        Line::from(seal.counts())
+    }
+}
+
+impl fmt::Display for Line {
+    ghost output = { λ x. Some (line_text x) };
+
+    fn fmt<W: fmt::Write>(&self, f: &mut fmt::Formatter<W>) -> fmt::Result {
+        let Line {
+            literals,
+            steps,
+            splits,
+        } = *self;
+        write!(f, "literals {literals} steps {steps} splits {splits}")
+    }
 }
 
 impl Sheet {
@@ -40,11 +75,7 @@ impl Sheet {
                 refusal: Refusal::SheetFull,
             });
         }
-        self.lines[next] = Line {
-            literals: seal.literals(),
-            steps: seal.steps(),
-            splits: seal.splits(),
-        };
+        self.lines[next] = Line::from(&seal);
         self.used = next + 1;
         Ok(next)
     }

@@ -1,8 +1,8 @@
-use Rattle.witness.proofs.Made.{made_so}
+use Rattle.std.proofs.lemmas.Result.{IfOk-weaker}
 use Rattle.witness.proofs.excluded.Goals as goal
 
 pub returns : goal.returns
 returns c =
-    made_so _ _ c.sealed.result (λ b h same.
+    IfOk-weaker c.sealed.result _ _ (λ b h same.
     let e = h same in
     record { answers = e.answers; places = e.places; taken = e.taken; sent = e.sent; none_true = λ v whole. e.none_true v (tt, whole) }) c.sealed.ensures

@@ -1,7 +1,8 @@
-use Rattle.witness.proofs.Made.{made_so}
-use Rattle.witness.proofs.Nothing.{never, not_true}
+use Rattle.std.proofs.lemmas.Bool.{false_from_ne_true}
+use Rattle.std.proofs.lemmas.Result.{IfOk-weaker}
+use Rattle.witness.proofs.Nothing.{never}
 use Rattle.witness.proofs.nothing_sealed.Goals as goal
 
 pub returns : goal.returns
 returns c =
-    made_so _ _ c.sealed.result (λ b h. not_true b (λ same. never c.args.literals.now (h same))) c.sealed.ensures
+    IfOk-weaker c.sealed.result _ _ (λ b h. false_from_ne_true b (λ same. never c.args.literals.now (h same))) c.sealed.ensures

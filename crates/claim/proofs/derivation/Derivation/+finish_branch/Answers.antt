@@ -1,39 +1,35 @@
-use Rattle.std.proofs.Common.{◌≡◌, suc, length, sym, refl, ap, ◌∙◌, subst, arith}
-use Rattle.claim.specs.Calls.{Fit}
-use Rattle.claim.specs.Derivations.{working, next, all_dropped}
-use Rattle.claim.specs.Derived.{state_of}
+use Rattle.std.proofs.Common.{◌∷◌, sym, ap, ◌∙◌, arith}
+use Rattle.claim.specs.Derivations.{next, all_dropped}
 use Rattle.claim.specs.Stacks.{stack_splits}
-use Rattle.claim.proofs.Moves.{moved_on, moved_out, left_branch}
+use Rattle.claim.proofs.Branches.{branch_ended}
+use Rattle.claim.proofs.Moves.{left_branch, next_branch, next_room, next_outer, working_is}
+use Rattle.claim.proofs.Stacks.{newest}
 use Rattle.claim.proofs.derivation.Derivation.+finish_branch.Goals as goal
 
-pub finish_branch-requires : goal.finish_branch-requires
-finish_branch-requires g t c κs within =
-    let same = c.if-not-next_branch.ensures.last.1 in
-    let kept : length (stack_splits c.next_branch.new.self.stack) ≡ length (stack_splits c.pop.new.self) = ap (λ d. length (stack_splits d.stack)) same in
-    let fewer : length (stack_splits c.args.self.now.stack) ≡ suc (length (stack_splits c.pop.new.self)) = ap length c.in-Some.ensures in
-    (omega (arith, c.decreases), within)
-
-pub returns-then-not-next_branch : goal.returns-then-not-next_branch
-returns-then-not-next_branch g t c =
+pub returns-in-Some-next-clause-state : goal.returns-in-Some-next-clause-state
+returns-in-Some-next-clause-state g t c is_open fit =
     let d = c.args.self.now in
-    let last = c.if-not-next_branch.ensures.last in
-    record {
-      state = λ is_open fit.
-          let out = left_branch g.T.Theory.places g.T.Theory.rules c.in-Some.split d.theory d.stack c.end_branch.new.theory c.pop.new.self c.in-Some.ensures c.end_branch.ensures fit in
-          let few = out.few in
-          moved_out g.T.Theory.places g.T.Theory.rules c.in-Some.split d.theory d.stack c.end_branch.new.theory c.pop.new.self c.in-Some.ensures c.end_branch.ensures fit _ last.0
-          (subst (λ e. state_of g.T.Theory.places c.finish_branch.new.self ≡ next g.T.Theory.rules (stack_splits e.stack) (all_dropped (g.T.Theory.places e.theory))) last.1
-          (c.finish_branch.ensures.state (ap (λ e. e.closed) last.1 ∙ is_open)
-          (subst (λ e. Fit g.T.Theory.rules (working (g.T.Theory.places e.theory) (stack_splits e.stack))) (sym last.1) (out.levelled, omega arith, out.ready))));
-      counts = c.finish_branch.ensures.counts ∙ c.if-not-next_branch.ensures.counts;
-    }
+    let s = c.in-Some.split in
+    let ss = stack_splits c.pop.new.self in
+    let ps = g.T.Theory.places c.pop_level.new.self in
+    let popped = newest c.pop.new.self d.stack s c.in-Some.ensures.items in
+    let out = left_branch g.T.Theory.rules s ss _ (g.T.Theory.places d.theory) ps popped (branch_ended g.T.Theory.places g.T.Theory.rules d.theory _ _ c.pop_level.ensures) fit in
+    let begun = c.begin_branch.ensures.begun out.levelled out.few (next_room g.T.Theory.rules s ss ps c.in-Some-next.branch c.in-Some-next.ensures out.ready) in
+    working_is g.T.Theory.places c.begin_branch.new.self _ _ (c.begin_branch.ensures.closed ∙ is_open) begun.0 begun.1
+    ∙ sym (next_branch g.T.Theory.rules s ss ps c.in-Some-next.branch c.in-Some-next.ensures)
+    ∙ ap (next g.T.Theory.rules (s ∷ ss)) out.dropped
+    ∙ ap (λ x. next g.T.Theory.rules x (all_dropped (g.T.Theory.places d.theory))) (sym popped)
 
-pub returns-else-not-next_branch : goal.returns-else-not-next_branch
-returns-else-not-next_branch g t c =
-    record {
-      state = λ is_open fit.
-          let d = c.args.self.now in
-          let out = left_branch g.T.Theory.places g.T.Theory.rules c.in-Some.split d.theory d.stack c.end_branch.new.theory c.pop.new.self c.in-Some.ensures c.end_branch.ensures fit in
-          moved_on g.T.Theory.places g.T.Theory.rules c.in-Some.split d.theory d.stack c.end_branch.new.theory c.pop.new.self c.in-Some.ensures c.end_branch.ensures fit _ _ refl refl is_open (c.if-not-next_branch.ensures.begun out.levelled out.few out.equal out.greater);
-      counts = c.if-not-next_branch.ensures.counts;
-    }
+pub returns-in-None-clause-state : goal.returns-in-None-clause-state
+returns-in-None-clause-state g t c is_open fit =
+    let d = c.args.self.now in
+    let s = c.in-Some.split in
+    let ss = stack_splits c.pop.new.self in
+    let ps = g.T.Theory.places c.pop_level.new.self in
+    let popped = newest c.pop.new.self d.stack s c.in-Some.ensures.items in
+    let out = left_branch g.T.Theory.rules s ss _ (g.T.Theory.places d.theory) ps popped (branch_ended g.T.Theory.places g.T.Theory.rules d.theory _ _ c.pop_level.ensures) fit in
+    let few = out.few in
+    c.finish_branch.ensures.state is_open (out.levelled, omega arith, out.ready.2)
+    ∙ sym (next_outer g.T.Theory.rules s ss ps c.in-None.ensures)
+    ∙ ap (next g.T.Theory.rules (s ∷ ss)) out.dropped
+    ∙ ap (λ x. next g.T.Theory.rules x (all_dropped (g.T.Theory.places d.theory))) (sym popped)

@@ -1,10 +1,13 @@
+use Rattle.std.proofs.Common.{rules}
+use Rattle.claim.specs.Calls.{LiteralCall}
+use Rattle.claim.specs.Counted.{place_of}
+use Rattle.claim.specs.Views.{LiteralTaken}
 use Rattle.claim.proofs.Extending.{claimed_more}
 use Rattle.claim.proofs.opening.Claim.literal.Goals as goal
 
-pub returns : goal.returns
-returns g c =
-    record {
-      call = c.take.ensures.call;
-      after = c.take.ensures.after;
-      history = λ ls rs taken h. claimed_more g.T.Theory.places g.T.Theory.rules c.args.self.now _ c.args.literal _ ls rs taken c.take.ensures.call c.take.ensures.after h;
-    }
+pub returns-clause-history : goal.returns-clause-history
+returns-clause-history g c ls rs taken h =
+    let d = c.args.self.now in
+    let call : LiteralCall g.T.Theory.rules (g.T.Theory.places d.theory) (place_of d.counts) c.args.literal c.map_err.result (g.T.Theory.places c.take.new.self.theory) = search rules in
+    let after : LiteralTaken c.map_err.result d c.take.new.self = search rules in
+    claimed_more g.T.Theory.places g.T.Theory.rules d c.take.new.self c.args.literal c.map_err.result ls rs taken call after h
