@@ -1,6 +1,7 @@
 -- Calls on a claim that has taken all that was sent.
-use Rattle.std.proofs.Common.{◌≡◌, List, [], ◌∷◌, ◌++◌, map, length, Ok, Err, sym, subst, append_assoc, arith}
+use Rattle.std.proofs.Common.{◌≡◌, List, [], ◌∷◌, ◌++◌, map, length, Ok, Err, Result, MatchResult, sym, refl, ◌∙◌, subst, append_assoc, arith}
 use Rattle.std.proofs.lemmas.List.{map_push, length_push}
+use Rattle.std.specs.Result.{IsErrAnd}
 use Rattle.facts.specs.declared.fault.CallFault.{CallFault}
 use Rattle.facts.specs.declared.literal.Literal.{Literal}
 use Rattle.theory.specs.Places.{Places}
@@ -42,10 +43,11 @@ module _ {T : Type 0} (places_of : T → Places) (book : Book) where
   states_one e c d l (Ok x) ls is h = (l ∷ [], is, h)
   states_one e c d l (Err f) ls is h = EntryRefused.sent e (l ∷ []) f is (RefusedAmong.here (places_of d.theory) h)
 
-  -- a record that states two
-  pub first_refused : (e : Entry) (c d x : Claim T) (l m : Literal) (f : CallFault) (ls : List Literal) → States e (l ∷ m ∷ []) → OneSent ls c l (Err f) d → EntrySent places_of book e ls c (Err f) x
-  first_refused e c d x l m f ls is h = EntryRefused.sent e (l ∷ m ∷ []) f is (RefusedAmong.here (places_of d.theory) h)
+  -- a record whose first literal is refused
+  pub first_refused : (e : Entry) (c d x : Claim T) (l : Literal) (ms : List Literal) (f : CallFault) (ls : List Literal) → States e (l ∷ ms) → OneSent ls c l (Err f) d → EntrySent places_of book e ls c (Err f) x
+  first_refused e c d x l ms f ls is h = EntryRefused.sent e (l ∷ ms) f is (RefusedAmong.here (places_of d.theory) h)
 
+  -- a record that states two
   pub second_sent : (e : Entry) (c d x : Claim T) (l m : Literal) (r : Answer) (ls : List Literal) → States e (l ∷ m ∷ []) → All c ls → LiteralCall book (places_of c.theory) (place_of c.counts) l (Ok tt) (places_of d.theory) → OneSent (ls ++ (l ∷ [])) d m r x → EntrySent places_of book e ls c r x
   second_sent e c d x l m (Ok y) ls is all call h = (l ∷ m ∷ [], is, subst (All x) (append_assoc ls (l ∷ []) (m ∷ [])) h)
   second_sent e c d x l m (Err f) ls is all call h =
@@ -56,3 +58,8 @@ module _ {T : Type 0} (places_of : T → Places) (book : Book) where
 -- the bounds of a reading as literals
 pub states_bounds : (s : SentReading) (b : Bounds) (ms : List Literal) → ReadingChecked s (Ok b) → ms ≡ map bound_literal (bounds_list b) → States (Entry.reading s) ms
 states_bounds s b ms taken is = (b, taken, is)
+
+-- an error that comes of `map_err`
+pub mapped_err : {X E F : Type 0} (a : Result X E) (m : Result X F) (f : F) (P : E → F → Type 0) (made : E → F) → MatchResult a (λ x. m ≡ Ok x) (λ e. IsErrAnd m (P e)) → ((e : E) (r : F) → P e r → r ≡ made e) → m ≡ Err f → (e : E) × (a ≡ Err e) × (f ≡ made e)
+mapped_err (Ok x) m f P made h by is = let no : Ok x ≡ Err f = sym h ∙ is in absurd cc
+mapped_err (Err e) m f P made h by is = (e, refl, by e f (subst (λ r. IsErrAnd r (P e)) is h))

@@ -1,9 +1,10 @@
 -- How a file's check comes to its verdict.
-use Rattle.std.proofs.Common.{◌≡◌, ℕ, ◌≤◌, List, [], ◌++◌, length, take, drop, Err, sym, refl, ap, ◌∙◌, subst, append_assoc, append-nil, arith}
+use Rattle.std.proofs.Common.{◌≡◌, ℕ, ◌≤◌, List, [], ◌++◌, length, take, drop, Err, Result, sym, refl, ap, ◌∙◌, subst, append_assoc, append-nil, arith}
 use Rattle.std.specs.List.{flat_map}
 use Rattle.std.proofs.lemmas.List.{take_all, take-append-drop, length-take-le}
 use Rattle.facts.specs.Valuations.{Valuation}
 use Rattle.facts.specs.declared.fault.RecordFault.{RecordFault}
+use Rattle.facts.specs.declared.literal.Literal.{Literal}
 use Rattle.theory.specs.Places.{Places}
 use Rattle.theory.specs.Rules.{Book, AllSound}
 use Rattle.claim.proofs.Promises.{promise}
@@ -52,8 +53,14 @@ module _ {T : Type 0} (places_of : T → Places) (book : Book) (file : List ℕ)
   -- ---- after the begin
 
   module _ (c : Claim T) (m start : ℕ) (o : Opened places_of book file m c) (begun : take start file ≡ take m file ++ begin_bytes) where
-    pub running_none : (d : Derivation T) → start ≤ length file → Reached places_of book d (places_of c.theory) o.literals [] [] [] → Running places_of book file (places_of c.theory) o.literals start start d
+    running_none : (d : Derivation T) → start ≤ length file → Reached places_of book d (places_of c.theory) o.literals [] [] [] → Running places_of book file (places_of c.theory) o.literals start start d
     running_none d inside h = record { steps = []; taken = []; fit = tt; within = inside; bytes = append-nil (take start file); reached = h }
+
+    -- the steps of a file, where they were read from a reader of its bytes
+    pub stepped : (bytes : List ℕ) (d e : Derivation T) (r : Result (Unit {0}) RecordFault) → bytes ≡ file → start ≤ length bytes → Reached places_of book d (places_of c.theory) o.literals [] [] [] → ((ps : Places) (ls : List Literal) → Running places_of book bytes ps ls start start d → SteppedThrough places_of book bytes ps ls start r e) → SteppedThrough places_of book file (places_of c.theory) o.literals start r e
+    stepped bytes d e r same inside h taken =
+        let first = running_none d (subst (λ b. start ≤ length b) same inside) h in
+        subst (λ b. SteppedThrough places_of book b (places_of c.theory) o.literals start r e) same (taken (places_of c.theory) o.literals (subst (λ b. Running places_of book b (places_of c.theory) o.literals start start d) (sym same) first))
 
     through : (ss : List SentStep) (n : ℕ) → take start file ++ flat_map step_bytes ss ≡ take n file → begun_bytes o.entries ss ≡ take n file
     through ss n is =

@@ -1,7 +1,6 @@
 mod Advances
-mod Bytes
+mod Rows
 mod Calls
-mod Fronts
 mod Judgements
 mod Strains
 pub mod Admitting

@@ -1,15 +1,17 @@
 -- The verdict on a file: its records, the calls on a fresh claim, and what they come to.
-use Rattle.std.specs.Prelude.{◌≡◌, ℕ, ◌+◌, ◌<◌, ◌≤◌, List, [], ◌∷◌, ◌++◌, length}
+use Rattle.std.specs.Prelude.{◌≡◌, ℕ, ◌+◌, ◌<◌, ◌≤◌, List, [], ◌∷◌, ◌++◌, length, Ok, Err, Result}
 use Rattle.std.specs.List.{flat_map}
 use Rattle.facts.specs.Literals.{LiteralTrue}
 use Rattle.facts.specs.Valuations.{Valuation}
 use Rattle.facts.specs.declared.fault.CallFault.{CallFault}
+use Rattle.facts.specs.declared.fault.RecordFault.{RecordFault}
 use Rattle.facts.specs.declared.literal.Literal.{Literal}
 use Rattle.facts.specs.declared.refusal.Refusal.{Refusal}
 use Rattle.theory.specs.Places.{Places}
 use Rattle.theory.specs.Rules.{Book}
 use Rattle.reading.specs.Converter.{Stores}
-use Rattle.claim.specs.Calls.{because, fault_of}
+use Rattle.facts.specs.Faults.{because}
+use Rattle.claim.specs.Calls.{fault_of}
 use Rattle.claim.specs.Derivations.{State, closed, working}
 use Rattle.claim.specs.Endings.{unbegun}
 use Rattle.claim.specs.Histories.{LiteralsSent, StepsSent, AllLiteralsTrue, splits_in}
@@ -38,12 +40,12 @@ pub record AllAssumed (book : Book) (es : List Entry) (ls : List Literal) (ps : 
   pub sent : LiteralsSent book ls (all_taken ls) ps ls
 
 abbrev pub unfinished : ℕ → ℕ → ℕ → ℕ → Unfinished
-unfinished l s x b = record { literals = l; steps = s; splits = x; branches = b }
+unfinished l s x b = record { line = record { literals = l; steps = s; splits = x }; branches = b }
 
 pub record CountedSeal (l s x : ℕ) (seal : Seal) : Type 0 where
-  pub literals : seal.literals ≡ l
-  pub steps : seal.steps ≡ s
-  pub splits : seal.splits ≡ x
+  pub literals : seal.counts.literals ≡ l
+  pub steps : seal.counts.steps ≡ s
+  pub splits : seal.counts.splits ≡ x
 
 -- the verdict where every record was taken, after so many literals, steps and splits
 abbrev pub Concluded : State → ℕ → ℕ → ℕ → Verdict → Type 0
@@ -57,10 +59,15 @@ Concluded (working ps ss) l s x (Verdict.Refused f) = ⊥
 abbrev pub refused_at : ℕ → CallFault → Verdict
 refused_at offset f = Verdict.Refused (record { call = f; offset = offset })
 
+-- what is refused is the verdict on its file
+abbrev pub verdict_of : Result Verdict RecordFault → Verdict
+verdict_of (Ok v) = v
+verdict_of (Err f) = Verdict.Refused f
+
 -- The verdict. A file is too long; or it has no begin, and is open; or all its records are taken
 -- up to one that is refused, before the begin or after it; or all are taken to its end.
 pub data Judged (book : Book) (file : List ℕ) : Verdict → Type 0 where
-  too_long : longest_file < length file → Judged book file (refused_at 0 (fault_of (because Refusal.InputTooLong 0) 0 0 0))
+  too_long : longest_file < length file → Judged book file (refused_at 0 (fault_of (because Refusal.InputTooLong) 0 0 0))
   not_begun : length file ≤ longest_file → (es : List Entry) (ls : List Literal) (ps : Places) → file ≡ front_bytes es → AllAssumed book es ls ps → Judged book file (Verdict.Open (unfinished (length ls) 0 0 1))
   refused_before : length file ≤ longest_file → (es : List Entry) (ls : List Literal) (ps : Places) (rest : List ℕ) (f : CallFault) → file ≡ front_bytes es ++ rest → AllAssumed book es ls ps → FrontRefused book ps (length ls) rest f → Judged book file (refused_at (length (front_bytes es)) f)
   refused_after : length file ≤ longest_file → (es : List Entry) (ls : List Literal) (ps : Places) (ss : List SentStep) (st : State) (taken : List Step) (rest : List ℕ) (f : CallFault) → file ≡ begun_bytes es ss ++ rest → AllStepsFit ss → AllAssumed book es ls ps → StepsSent book ps (length ls) ss (all_taken ss) st taken → StepRefused book st (length ls + length taken) rest f → Judged book file (refused_at (length (begun_bytes es ss)) f)

@@ -3,15 +3,13 @@ use Rattle.std.specs.Prelude.{◌≡◌, ℕ, List, ◌++◌, codes, decimal}
 use Rattle.facts.specs.Lines.{refused_line}
 use Rattle.facts.specs.Valuations.{Valuation}
 use Rattle.theory.specs.Rules.{Book}
+use Rattle.claim.specs.Sheets.{line_of, line_text}
 use Rattle.claimfile.specs.Judging.{EstablishedMeans, Judged}
 use Rattle.claimfile.specs.declared.verdict.Verdict.{Verdict}
 
-abbrev pub counts_text : ℕ → ℕ → ℕ → List ℕ
-counts_text l s x = codes " literals " ++ (decimal l ++ (codes " steps " ++ (decimal s ++ (codes " splits " ++ decimal x))))
-
 abbrev pub verdict_line : Verdict → List ℕ
-verdict_line (Verdict.Established s) = codes "ESTABLISHED" ++ counts_text s.literals s.steps s.splits
-verdict_line (Verdict.Open u) = codes "OPEN" ++ (counts_text u.literals u.steps u.splits ++ (codes " branches " ++ decimal u.branches))
+verdict_line (Verdict.Established s) = codes "ESTABLISHED " ++ line_text (line_of s)
+verdict_line (Verdict.Open u) = codes "OPEN " ++ (line_text u.line ++ (codes " branches " ++ decimal u.branches))
 verdict_line (Verdict.Refused f) = refused_line f
 
 -- the text is the line of the file's verdict

@@ -1,6 +1,9 @@
 -- Records as they are read: what stands at the front of what is left of a file.
-use Rattle.std.specs.Prelude.{◌≡◌, ℕ, ◌<◌, ◌≤◌, List, [], ◌∷◌, ◌++◌, length, drop, Some, None, Ok, Err, Option, Result, ◌≢◌}
+use Rattle.std.specs.Prelude.{◌≡◌, ℕ, ◌<◌, ◌≤◌, List, [], ◌∷◌, ◌+◌, ◌++◌, length, drop, Some, None, Ok, Err, Option, Result, ◌≢◌}
+use Rattle.facts.specs.declared.fault.RecordFault.{RecordFault}
 use Rattle.facts.specs.declared.refusal.Refusal.{Refusal}
+use Rattle.facts.specs.Faults.{because}
+use Rattle.claim.specs.Calls.{fault_of}
 use Rattle.claimfile.specs.Kinds.{shape_of, front, later}
 use Rattle.claimfile.specs.declared.record.Record.{Record}
 use Rattle.claimfile.specs.declared.record.Shape.{Shape}
@@ -33,3 +36,17 @@ abbrev pub Read : Stage → List ℕ → Result (Option Record) Refusal → Type
 Read stage bytes (Ok None) = bytes ≡ []
 Read stage bytes (Ok (Some r)) = Formed stage r × (bytes ≡ record_bytes r ++ drop (length (record_bytes r)) bytes)
 Read stage bytes (Err e) = Unread stage bytes e
+
+-- what stands at an offset of a file, read at a stage
+abbrev pub ReadAt : Stage → List ℕ → ℕ → ℕ → ℕ → Result (Option Record) RecordFault → Type 0
+ReadAt stage file offset place depth (Ok next) = Read stage (drop offset file) (Ok next)
+ReadAt stage file offset place depth (Err f) =
+    (r : Refusal)
+    × Unread stage (drop offset file) r
+    × (f ≡ record { call = fault_of (because r) 0 place depth; offset = offset })
+
+-- what was read is passed
+abbrev pub Passed : ℕ → Result (Option Record) RecordFault → ℕ → Type 0
+Passed offset (Ok (Some r)) next = next ≡ offset + length (record_bytes r)
+Passed offset (Ok None) next = next ≡ offset
+Passed offset (Err f) next = next ≡ offset

@@ -10,7 +10,8 @@ use Rattle.reading.specs.Bounds.{bound_literal, bounds_list}
 use Rattle.reading.specs.Converter.{ReadingChecked}
 use Rattle.reading.specs.declared.bound.Bounds.{Bounds}
 use Rattle.reading.specs.declared.count.SentReading.{SentReading}
-use Rattle.claim.specs.Calls.{Answer, LiteralCall, StepCall, because, fault_of}
+use Rattle.facts.specs.Faults.{because}
+use Rattle.claim.specs.Calls.{Answer, LiteralCall, StepCall, fault_of}
 use Rattle.claim.specs.Derivations.{State, open_splits}
 use Rattle.claim.specs.declared.sent.SentStep.{SentStep}
 use Rattle.claim.specs.declared.step.Step.{Step}
@@ -45,10 +46,10 @@ pub data EntryRefused (book : Book) (ps : Places) (place : ℕ) : Entry → Call
 
 -- what is left of a file begins with a record that is refused before the begin
 pub data FrontRefused (book : Book) (ps : Places) (place : ℕ) : List ℕ → CallFault → Type 0 where
-  unread : {rest : List ℕ} (r : Refusal) → Unread Stage.Literals rest r → FrontRefused book ps place rest (fault_of (because r 0) 0 place 0)
+  unread : {rest : List ℕ} (r : Refusal) → Unread Stage.Literals rest r → FrontRefused book ps place rest (fault_of (because r) 0 place 0)
   entry : (rest : List ℕ) (e : Entry) (f : CallFault) → EntryRefused book ps place e f → FrontRefused book ps place (entry_bytes e ++ rest) f
 
 -- and after it
 pub data StepRefused (book : Book) (st : State) (place : ℕ) : List ℕ → CallFault → Type 0 where
-  unread : {rest : List ℕ} (r : Refusal) → Unread Stage.Steps rest r → StepRefused book st place rest (fault_of (because r 0) 0 place (open_splits st))
+  unread : {rest : List ℕ} (r : Refusal) → Unread Stage.Steps rest r → StepRefused book st place rest (fault_of (because r) 0 place (open_splits st))
   step : (rest : List ℕ) (s : SentStep) (f : CallFault) (t : Option Step) (after : State) → StepFits s → StepCall book place s st (Err f) t after → StepRefused book st place (step_bytes s ++ rest) f

@@ -1,200 +1,84 @@
 // The check of a whole file.
-ghost use Rattle.std.specs.Prelude.{◌≡◌, ℕ, ◌≤◌, List, length};
+ghost use Rattle.std.specs.Prelude.{◌≡◌, List};
 ghost use Rattle.theory.specs.Places.{Places};
 ghost use Rattle.facts.specs.declared.literal.Literal.{Literal};
 ghost use Rattle.claimfile.specs.Entries.{Entry};
 ghost use Rattle.claimfile.specs.Sending.{all_taken};
-ghost use Rattle.claimfile.specs.Progress.{EntrySent, Opened, ReadAt, Turned, turn_of, next_of, Fronted, Ahead, Later, Within, Running, Advanced, SteppedThrough};
-ghost use Rattle.claim.specs.Calls.{because, fault_of};
+ghost use Rattle.claimfile.specs.Progress.{EntrySent, Opened, Fronted, Running, SteppedThrough};
 ghost use Rattle.claim.specs.Derived.{Claimed, state_of};
-ghost use Rattle.claimfile.specs.Judging.{Concluded, EstablishedMeans, Judged, refused_at, unfinished};
-ghost use Rattle.facts.specs.declared.refusal.Refusal.TheVariants.{InputTooLong};
+ghost use Rattle.claimfile.specs.Judging.{Concluded, EstablishedMeans, Judged, verdict_of, unfinished};
 
 use crate::fields::{literal_of, reading_of, step_of};
-use crate::record::{Record, Stage, read};
+use crate::reader::Reader;
+use crate::record::{Record, Stage};
 use crate::verdict::{Unfinished, Verdict};
-use claim::{Claim, Counts, Derivation, Ending};
-use facts::{CallFault, Cause, RecordFault, Refusal};
-use reading::{Bounds, SentReading};
+use claim::{Claim, Counts, Derivation, Ending, Line};
+use facts::{CallFault, RecordFault, Refusal};
+use reading::SentReading;
 use theory::Theory;
 
 // The longest file that is checked.
 pub const LONGEST_FILE: usize = 32_768;
 
-// What came of a record before the begin: where the next one begins, or where the first step
-// begins, or that no record is left.
-#[derive(Clone, Copy)]
-enum Turn {
-    Taken(usize),
-    Begun(usize),
-    Ended,
-}
-
-// The fault of a call that is refused before the begin, after so many literals.
-fn front_fault(cause: Cause, place: u32) -> CallFault
-    ensures { result ≡ fault_of cause 0 place 0 }
-{
-    CallFault {
-        cause,
-        address: 0,
-        place,
-        depth: 0,
-    }
-}
-
 // Sends the literals of a reading, each by a call of its own.
 fn send_reading<T: Theory>(claim: &mut Claim<T>, sent: SentReading) -> Result<(), CallFault>
     ensures { (ls : List Literal) → Claimed T.Theory.places T.Theory.rules claim.old ls (all_taken ls) ls → EntrySent T.Theory.places T.Theory.rules (Entry.reading sent) ls claim.old result claim.new }
 {
-    let bounds = match sent.check() {
-        Ok(bounds) => bounds,
-        Err(cause) => return Err(front_fault(cause, claim.counts().place())),
-    };
-    match bounds {
-        Bounds::One(only) => claim.literal(only.literal()),
-        Bounds::Two(first, second) => {
-            claim.literal(first.literal())?;
-            claim.literal(second.literal())
-        }
-    }
-}
-
-// The record at an offset; the fault of one that cannot be read has the place and depth of the claim.
-fn record_at(
-    file: &[u8],
-    offset: usize,
-    stage: Stage,
-    place: u32,
-    depth: u8,
-) -> Result<Option<Record<'_>>, RecordFault>
-    requires { offset ≤ length file.now }
-    ensures { ReadAt stage file.now offset place depth result }
-{
-    match read(&file[offset..], stage) {
-        Ok(next) => Ok(next),
-        Err(refusal) => Err(RecordFault {
-            call: CallFault {
-                cause: Cause {
-                    refusal,
-                    detail: 0,
-                    theory: 0,
-                },
-                address: 0,
-                place,
-                depth,
-            },
-            offset,
-        }),
-    }
-}
-
-// What a call's answer comes to for the record at an offset, where the next begins after it.
-fn turn_of(answer: Result<(), CallFault>, offset: usize, next: usize) -> Result<Turn, RecordFault>
-    ensures { result ≡ turn_of answer offset next }
-{
-    match answer {
-        Ok(()) => Ok(Turn::Taken(next)),
-        Err(call) => Err(RecordFault { call, offset }),
-    }
-}
-
-// Takes the record at an offset, before the begin.
-fn take_front<T: Theory>(
-    claim: &mut Claim<T>,
-    file: &[u8],
-    offset: usize,
-) -> Result<Turn, RecordFault>
-    requires { offset ≤ length file.now }
-    ensures ahead { Ahead offset (length file.now) result }
-    ensures turn { (o : Opened T.Theory.places T.Theory.rules file.now offset claim.old) → Turned T.Theory.places T.Theory.rules file.now offset (T.Theory.places claim.old.theory) o.literals result claim.new }
-{
     let place = claim.counts().place();
-    let Some(record) = record_at(file, offset, Stage::Literals, place, 0)? else {
-        return Ok(Turn::Ended);
-    };
-    match record {
-        Record::Literal(kind, body) => {
-            let answer = claim.literal(literal_of(kind, body));
-            turn_of(answer, offset, offset + 1 + body.len())
-        }
-        Record::Reading(body) => {
-            let answer = send_reading(claim, reading_of(body));
-            turn_of(answer, offset, offset + 1 + body.len())
-        }
-        Record::Begin => Ok(Turn::Begun(offset + 1)),
-        Record::Step(_, _) => unreachable(),
+    let bounds = sent
+        .check()
+        .map_err(|cause| CallFault::unaddressed(cause, place, 0))?;
+    claim.literal(bounds.lower.literal())?;
+    match bounds.upper {
+        Some(upper) => claim.literal(upper.literal()),
+        None => Ok(()),
     }
 }
 
-// Takes the records before the begin: where the first step begins, or none where the file ends.
-fn take_literals<T: Theory>(claim: &mut Claim<T>, file: &[u8]) -> Result<Option<usize>, RecordFault>
-    ensures within { Within (length file.now) result }
-    ensures front { Opened T.Theory.places T.Theory.rules file.now 0 claim.old → Fronted T.Theory.places T.Theory.rules file.now result claim.new }
+// Takes the records before the begin, up to where the steps begin, or to the end where no begin comes.
+fn take_front<'a, T: Theory>(
+    claim: &mut Claim<T>,
+    mut reader: Reader<'a>,
+) -> Result<Option<Reader<'a>>, RecordFault>
+    ensures { Opened T.Theory.places T.Theory.rules reader.entry.file.now reader.entry.at claim.old → Fronted T.Theory.places T.Theory.rules reader.entry.file.now result claim.new }
 {
-    let mut offset = 0;
     loop {
-        match take_front(claim, file, offset)? {
-            Turn::Taken(next) => offset = next,
-            Turn::Begun(start) => return Ok(Some(start)),
-            Turn::Ended => return Ok(None),
+        let offset = reader.at;
+        let refused = |call| RecordFault { call, offset };
+        match reader.next(Stage::Literals, claim.counts().place(), 0)? {
+            None => return Ok(None),
+            Some(Record::Begin) => return Ok(Some(reader)),
+            Some(Record::Literal(kind, body)) => claim
+                .literal(literal_of(kind, body))
+                .map_err(refused)?,
+            Some(Record::Reading(body)) => send_reading(claim, reading_of(body)).map_err(refused)?,
+            // no step is read before the begin; a type of records for each stage says the same twice
+            Some(Record::Step(_, _)) => unreachable(),
         }
     }
 }
 
-// What a step's answer comes to for the record at an offset, where the next begins after it.
-fn next_of(
-    answer: Result<(), CallFault>,
-    offset: usize,
-    next: usize,
-) -> Result<Option<usize>, RecordFault>
-    ensures { result ≡ next_of answer offset next }
-{
-    match answer {
-        Ok(()) => Ok(Some(next)),
-        Err(call) => Err(RecordFault { call, offset }),
-    }
-}
-
-// Takes the record at an offset, after the begin: where the next one begins, or none at the end.
-fn take_step<T: Theory>(
-    derivation: &mut Derivation<T>,
-    file: &[u8],
-    offset: usize,
-) -> Result<Option<usize>, RecordFault>
-    requires { offset ≤ length file.now }
-    ensures later { Later offset (length file.now) result }
-    ensures advance { (ps : Places) (ls : List Literal) (start : ℕ) (o : Running T.Theory.places T.Theory.rules file.now ps ls start offset derivation.old) → Advanced T.Theory.places T.Theory.rules file.now ps ls start offset o.taken derivation.old result derivation.new }
-{
-    let place = derivation.counts().place();
-    let depth = derivation.depth();
-    let Some(record) = record_at(file, offset, Stage::Steps, place, depth)? else {
-        return Ok(None);
-    };
-    match record {
-        Record::Step(kind, body) => {
-            let answer = derivation.step(step_of(kind, body));
-            next_of(answer, offset, offset + 1 + body.len())
-        }
-        Record::Literal(_, _) => unreachable(),
-        Record::Reading(_) => unreachable(),
-        Record::Begin => unreachable(),
-    }
-}
-
-// Takes the records after the begin, from where they start.
+// Takes the records after the begin.
 fn take_steps<T: Theory>(
     derivation: &mut Derivation<T>,
-    file: &[u8],
-    start: usize,
+    mut reader: Reader,
 ) -> Result<(), RecordFault>
-    requires { start ≤ length file.now }
-    ensures { (ps : Places) (ls : List Literal) → Running T.Theory.places T.Theory.rules file.now ps ls start start derivation.old → SteppedThrough T.Theory.places T.Theory.rules file.now ps ls start result derivation.new }
+    ensures { (ps : Places) (ls : List Literal) → Running T.Theory.places T.Theory.rules reader.entry.file.now ps ls reader.entry.at reader.entry.at derivation.old → SteppedThrough T.Theory.places T.Theory.rules reader.entry.file.now ps ls reader.entry.at result derivation.new }
 {
-    let mut offset = start;
-    while let Some(next) = take_step(derivation, file, offset)? {
-        offset = next;
+    loop {
+        let offset = reader.at;
+        let place = derivation.counts().place();
+        let Some(record) = reader.next(Stage::Steps, place, derivation.depth())? else {
+            return Ok(());
+        };
+        // after the begin only steps are read
+        let Record::Step(kind, body) = record else {
+            unreachable()
+        };
+        derivation
+            .step(step_of(kind, body))
+            .map_err(|call| RecordFault { call, offset })?;
     }
-    Ok(())
 }
 
 // What is left open, by what was taken and how many branches are left.
@@ -202,9 +86,7 @@ fn unfinished(counts: Counts, branches: u32) -> Unfinished
     ensures { result ≡ unfinished counts.literals counts.steps counts.splits branches }
 {
     Unfinished {
-        literals: counts.literals(),
-        steps: counts.steps(),
-        splits: counts.splits(),
+        line: Line::from(counts),
         branches,
     }
 }
@@ -220,41 +102,28 @@ fn conclude<T: Theory + Drop>(derivation: Derivation<T>) -> Verdict
     }
 }
 
-// The verdict on a file that is too long.
-fn too_long() -> Verdict
-    ensures { result ≡ refused_at 0 (fault_of (because InputTooLong 0) 0 0 0) }
+// Sends the records of a file to a fresh claim, until one is refused or the file ends.
+fn judge<T: Theory + Drop>(file: &[u8]) -> Result<Verdict, RecordFault>
+    ensures verdict { Judged T.Theory.rules file.now (verdict_of result) }
+    ensures established { EstablishedMeans T.Theory.admits file.now (verdict_of result) }
 {
-    let cause = Cause {
-        refusal: Refusal::InputTooLong,
-        detail: 0,
-        theory: 0,
+    if file.len() > LONGEST_FILE {
+        let call = CallFault::unaddressed(Refusal::InputTooLong.into(), 0, 0);
+        return Err(RecordFault { call, offset: 0 });
+    }
+    let mut claim = Claim::<T>::open();
+    let Some(steps) = take_front(&mut claim, Reader { file, at: 0 })? else {
+        return Ok(Verdict::Open(unfinished(claim.counts(), 1)));
     };
-    Verdict::Refused(RecordFault {
-        call: front_fault(cause, 0),
-        offset: 0,
-    })
+    let mut derivation = claim.begin();
+    take_steps(&mut derivation, steps)?;
+    Ok(conclude(derivation))
 }
 
-// Checks a file on a fresh claim: sends its records in their order, until one is refused or the file
-// ends.
+// Checks a file on a fresh claim.
 pub fn check<T: Theory + Drop>(file: &[u8]) -> Verdict
     ensures verdict { Judged T.Theory.rules file.now result }
     ensures established { EstablishedMeans T.Theory.admits file.now result }
 {
-    if file.len() > LONGEST_FILE {
-        return too_long();
-    }
-    let mut claim = Claim::<T>::open();
-    let begun = match take_literals(&mut claim, file) {
-        Ok(begun) => begun,
-        Err(fault) => return Verdict::Refused(fault),
-    };
-    let Some(start) = begun else {
-        return Verdict::Open(unfinished(claim.counts(), 1));
-    };
-    let mut derivation = claim.begin();
-    match take_steps(&mut derivation, file, start) {
-        Ok(()) => conclude(derivation),
-        Err(fault) => Verdict::Refused(fault),
-    }
+    judge::<T>(file).unwrap_or_else(Verdict::Refused)
 }

@@ -7,67 +7,68 @@ ghost use Rattle.reading.specs.Lists.{record_bytes as reading_bytes};
 use claim::SentStep;
 use facts::{Literal, Relation, SentPair, SentRow, SentTerm};
 use reading::SentReading;
+use std::array;
 
-// The term that begins at a byte.
-fn term_at(body: &[u8], at: usize) -> SentTerm
-    requires { at + 4 ≤ length body.now }
-    ensures { term_bytes result ≡ take 4 (drop at body.now) }
+// Bodies are cut into slices, with their lengths asked: an array would take an `unwrap` at each call.
+
+// The term of four bytes.
+fn term_of(bytes: &[u8]) -> SentTerm
+    requires { length bytes.now ≡ 4 }
+    ensures { term_bytes result ≡ bytes.now }
 {
     SentTerm {
-        tag: body[at],
-        letter: body[at + 1],
-        first: body[at + 2],
-        second: body[at + 3],
+        tag: bytes[0],
+        letter: bytes[1],
+        first: bytes[2],
+        second: bytes[3],
     }
 }
 
-// The signed number of four bytes that begins at a byte.
-fn number_at(body: &[u8], at: usize) -> i32
-    requires { at + 4 ≤ length body.now }
-    ensures bytes { number_bytes result ≡ take 4 (drop at body.now) }
+// The signed number of four bytes.
+fn number_of(bytes: &[u8]) -> i32
+    requires { length bytes.now ≡ 4 }
+    ensures written { number_bytes result ≡ bytes.now }
     ensures fits { Fits32 result }
 {
-    i32::from_le_bytes([body[at], body[at + 1], body[at + 2], body[at + 3]])
+    i32::from_le_bytes(bytes.try_into().unwrap())
 }
 
-// The name and coefficient that begin at a byte.
-fn pair_at(body: &[u8], at: usize) -> SentPair
-    requires { at + 5 ≤ length body.now }
-    ensures bytes { pair_bytes result ≡ take 5 (drop at body.now) }
+// The name and coefficient of five bytes.
+fn pair_of(bytes: &[u8]) -> SentPair
+    requires { length bytes.now ≡ 5 }
+    ensures written { pair_bytes result ≡ bytes.now }
     ensures fits { Fits32 result.coefficient }
 {
     SentPair {
-        name: body[at],
-        coefficient: number_at(body, at + 1),
+        name: bytes[0],
+        coefficient: number_of(&bytes[1..]),
     }
 }
 
-// The row that a body holds.
+// The row that a body holds: its constant, and four pairs.
 fn row_of(body: &[u8]) -> SentRow
     requires { length body.now ≡ 24 }
-    ensures bytes { row_bytes result ≡ body.now }
-    ensures fits { Fits32 result.constant × AllPairsFit result.pairs }
+    ensures written { row_bytes result ≡ body.now }
+    ensures constant { Fits32 result.constant }
+    ensures pairs { AllPairsFit result.pairs }
 {
     SentRow {
-        constant: number_at(body, 0),
-        pairs: [
-            pair_at(body, 4),
-            pair_at(body, 9),
-            pair_at(body, 14),
-            pair_at(body, 19),
-        ],
+        constant: number_of(&body[..4]),
+        pairs: array::from_fn(|i| pair_of(&body[4 + 5 * i..9 + 5 * i])),
     }
 }
 
 // The literal of a record, which is of kind E, D, G, S or Z.
 pub(crate) fn literal_of(kind: char, body: &[u8]) -> Literal
-    requires { (shape_of kind ≡ Some (front (length body.now))) × (((kind ≢ 75)) × ((kind ≢ 66))) }
+    requires shape { shape_of kind ≡ Some (front (length body.now)) }
+    requires not_reading { kind ≢ 75 }
+    requires not_begin { kind ≢ 66 }
     ensures bytes { literal_bytes result ≡ kind ∷ body.now }
     ensures fits { LiteralFits result }
 {
     match kind {
-        'E' => Literal::Equal(term_at(body, 0), term_at(body, 4)),
-        'D' => Literal::Distinct(term_at(body, 0), term_at(body, 4)),
+        'E' => Literal::Equal(term_of(&body[..4]), term_of(&body[4..])),
+        'D' => Literal::Distinct(term_of(&body[..4]), term_of(&body[4..])),
         'G' => Literal::Linear(Relation::NonNegative, row_of(body)),
         'S' => Literal::Linear(Relation::Positive, row_of(body)),
         _ => Literal::Linear(Relation::Zero, row_of(body)),
@@ -92,13 +93,13 @@ pub(crate) fn step_of(kind: char, body: &[u8]) -> SentStep
     ensures fits { StepFits result }
 {
     match kind {
-        'R' => SentStep::Reflexivity(body[0], term_at(body, 1)),
+        'R' => SentStep::Reflexivity(body[0], term_of(&body[1..])),
         'T' => SentStep::Transitivity(body[0], body[1], body[2]),
         'C' => SentStep::Congruence(body[0], body[1], body[2], body[3]),
         'N' => SentStep::Clash(body[0], body[1]),
         'X' => SentStep::Propagate(body[0]),
         'O' => SentStep::Zero(body[0]),
-        'M' => SentStep::Add(body[0], body[1], number_at(body, 2)),
+        'M' => SentStep::Add(body[0], body[1], number_of(&body[2..])),
         'Q' => SentStep::Antisymmetry(body[0], body[1], body[2], body[3]),
         'F' => SentStep::Falsify(body[0]),
         'I' => SentStep::Strengthen(body[0]),

@@ -4,6 +4,7 @@
 mod checking;
 mod fields;
 mod printing;
+mod reader;
 mod record;
 mod verdict;
 

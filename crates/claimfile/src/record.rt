@@ -1,12 +1,12 @@
 // The records of a file.
-ghost use Rattle.std.specs.Prelude.{◌≡◌, ◌∷◌, length, Some};
+ghost use Rattle.std.specs.Prelude.{◌≡◌, ◌≤◌, ◌∷◌, length, Some};
 ghost use Rattle.claimfile.specs.Kinds.{shape_of, front, later};
 ghost use Rattle.claimfile.specs.Records.{Read, Formed, record_bytes};
 
 use facts::Refusal;
 
 // Where a record belongs: before the begin, which belongs there too, or after it.
-#[derive(Clone, Copy, PartialEq)]
+#[derive(Clone, Copy, PartialEq, Eq, Debug)]
 pub enum Stage {
     Literals,
     Steps,
@@ -19,7 +19,8 @@ pub struct Shape {
     pub length: usize,
 }
 
-// A record: its kind where several kinds are alike, and its body, a part of the file.
+// A record: its kind where several kinds are alike, and its body, a part of the file. A kind stays the
+// letter that the format has, a rule of this project: the code names what a reader of a dump sees.
 #[derive(Clone, Copy)]
 pub enum Record<'a> {
     Literal(char, &'a [u8]),
@@ -28,21 +29,17 @@ pub enum Record<'a> {
     Step(char, &'a [u8]),
 }
 
-fn before_begin(length: usize) -> Shape
-    ensures { result ≡ front length }
-{
-    Shape {
-        stage: Stage::Literals,
-        length,
-    }
-}
-
-fn after_begin(length: usize) -> Shape
-    ensures { result ≡ later length }
-{
-    Shape {
-        stage: Stage::Steps,
-        length,
+impl Record<'_> {
+    // How many bytes it has, with its kind.
+    pub(crate) fn len(&self) -> usize
+        requires { length (record_bytes self.now) ≤ usize.MAX }
+        ensures { result ≡ length (record_bytes self.now) }
+    {
+        let body = match self {
+            Record::Literal(_, body) | Record::Reading(body) | Record::Step(_, body) => body.len(),
+            Record::Begin => 0,
+        };
+        1 + body
     }
 }
 
@@ -50,19 +47,20 @@ fn after_begin(length: usize) -> Shape
 fn shape_of(kind: char) -> Option<Shape>
     ensures { result ≡ shape_of kind }
 {
-    match kind {
-        'E' | 'D' => Some(before_begin(8)),
-        'G' | 'S' | 'Z' => Some(before_begin(24)),
-        'K' => Some(before_begin(3)),
-        'B' => Some(before_begin(0)),
-        'R' => Some(after_begin(5)),
-        'T' => Some(after_begin(3)),
-        'C' | 'Q' => Some(after_begin(4)),
-        'M' => Some(after_begin(6)),
-        'N' | 'Y' => Some(after_begin(2)),
-        'X' | 'O' | 'F' | 'I' | 'U' | 'P' => Some(after_begin(1)),
-        _ => None,
-    }
+    let (stage, length) = match kind {
+        'E' | 'D' => (Stage::Literals, 8),
+        'G' | 'S' | 'Z' => (Stage::Literals, 24),
+        'K' => (Stage::Literals, 3),
+        'B' => (Stage::Literals, 0),
+        'R' => (Stage::Steps, 5),
+        'T' => (Stage::Steps, 3),
+        'C' | 'Q' => (Stage::Steps, 4),
+        'M' => (Stage::Steps, 6),
+        'N' | 'Y' => (Stage::Steps, 2),
+        'X' | 'O' | 'F' | 'I' | 'U' | 'P' => (Stage::Steps, 1),
+        _ => return None,
+    };
+    Some(Shape { stage, length })
 }
 
 // A kind and its body as a record.
@@ -78,22 +76,17 @@ fn record_of(kind: char, body: &[u8]) -> Record<'_>
 }
 
 // The record at the front of what is left of a file, unless nothing is left.
-pub fn read(rest: &[u8], stage: Stage) -> Result<Option<Record<'_>>, Refusal>
-    ensures { Read stage rest.now result }
+pub fn read(bytes: &[u8], stage: Stage) -> Result<Option<Record<'_>>, Refusal>
+    ensures { Read stage bytes.now result }
 {
-    if rest.is_empty() {
+    let Some((first, rest)) = bytes.split_first() else {
         return Ok(None);
-    }
-    let kind = rest[0] as char;
-    let Some(shape) = shape_of(kind) else {
-        return Err(Refusal::UnknownKind);
     };
-    if rest.len() - 1 < shape.length {
-        return Err(Refusal::BodyCutShort);
-    }
+    let kind = char::from(*first);
+    let shape = shape_of(kind).ok_or(Refusal::UnknownKind)?;
+    let body = rest.get(..shape.length).ok_or(Refusal::BodyCutShort)?;
     if shape.stage != stage {
         return Err(Refusal::WrongStage);
     }
-    let body = &rest[1..1 + shape.length];
     Ok(Some(record_of(kind, body)))
 }

@@ -2,16 +2,14 @@
 ghost use Rattle.claimfile.specs.Lines.{verdict_line};
 ghost use Rattle.std.specs.Prelude.{Some};
 
-use claim::Seal;
+use claim::{Line, Seal};
 use facts::RecordFault;
 use std::fmt;
 
 // What an open claim has taken, and how many branches are left.
 #[derive(Clone, Copy)]
 pub struct Unfinished {
-    pub literals: u32,
-    pub steps: u32,
-    pub splits: u32,
+    pub line: Line,
     pub branches: u32,
 }
 
@@ -32,23 +30,12 @@ impl fmt::Display for Verdict {
     fn fmt<W: fmt::Write>(&self, f: &mut fmt::Formatter<W>) -> fmt::Result {
         match self {
             Verdict::Established(seal) => {
-                let literals = seal.literals();
-                let steps = seal.steps();
-                let splits = seal.splits();
-                write!(
-                    f,
-                    "ESTABLISHED literals {literals} steps {steps} splits {splits}"
-                )
+                let line = Line::from(seal);
+                write!(f, "ESTABLISHED {line}")
             }
             Verdict::Open(left) => {
-                let literals = left.literals;
-                let steps = left.steps;
-                let splits = left.splits;
-                let branches = left.branches;
-                write!(
-                    f,
-                    "OPEN literals {literals} steps {steps} splits {splits} branches {branches}"
-                )
+                let Unfinished { line, branches } = *left;
+                write!(f, "OPEN {line} branches {branches}")
             }
             Verdict::Refused(fault) => write!(f, "{fault}"),
         }

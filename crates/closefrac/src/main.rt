@@ -10,9 +10,9 @@ ghost use Rattle.claimfile.specs.Lines.{Reported};
 
 use claimfile::{LONGEST_FILE, report};
 use equality::Equality;
+use filter::convert;
 use linear::Fractions;
 use std::alloc::{AllocError, Global};
-use std::io::Read;
 use theory::{Pair, Single};
 
 // The line of a file. Established means that no valuation makes all its literals
@@ -23,16 +23,14 @@ fn line(heap: Global, file: &[u8]) -> Result<String, AllocError>
     report::<Pair<Single<Equality>, Single<Fractions>>>(heap, file)
 }
 
-// One byte more than the longest file is enough to tell that a file is longer.
-fn run(rt: &HostRuntime) -> anyhow::Result<()> {
-    let mut file = Vec::new(rt.alloc());
-    rt.stdin()
-        .take(LONGEST_FILE as u64 + 1)
-        .read_to_end(&mut file)?;
-    rt.print(line(rt.alloc(), file.as_slice())?)?;
-    Ok(())
-}
-
+// One byte more than the longest file is enough to tell that a file is longer. No `From` goes from
+// `usize` to `u64`.
 fn main(rt: HostRuntime) -> anyhow::Result<()> {
-    run(&rt)
+    convert(
+        rt.alloc(),
+        rt.stdin(),
+        &mut rt.stdout(),
+        LONGEST_FILE as u64 + 1,
+        line,
+    )
 }

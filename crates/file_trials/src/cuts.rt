@@ -1,8 +1,6 @@
+use crate::pairs::OverWhole;
 use claimfile::{Verdict, check as check_file};
-use equality::Equality;
-use linear::Whole;
 use std::test::Fail;
-use theory::{Pair, Single};
 
 // Two readings, an overload and the steps against it.
 const FILE: &[u8] =
@@ -13,22 +11,15 @@ const RECORDS: [usize; 9] = [0, 4, 8, 33, 34, 36, 43, 50, 57];
 
 // The start of the record that a cut falls into, or none where it falls between two.
 fn torn(cut: usize) -> Option<usize> {
-    let mut start = 0;
-    for record in RECORDS {
-        if record == cut {
-            return None;
-        }
-        if record < cut {
-            start = record;
-        }
-    }
-    Some(start)
+    let start = RECORDS.into_iter().rfind(|start| *start <= cut)?;
+    (start < cut).then_some(start)
 }
 
 #[test]
 fn every_cut_has_its_verdict(rt: HostRuntime) -> Result<(), Fail> {
+    // the lengths are what is tested, and stand in no list
     for cut in 0..FILE.len() {
-        let verdict = check_file::<Pair<Single<Equality>, Single<Whole>>>(&FILE[0..cut]);
+        let verdict = check_file::<OverWhole>(&FILE[..cut]);
         match (verdict, torn(cut)) {
             (Verdict::Open(_), None) => {}
             (Verdict::Refused(fault), Some(start)) => {
@@ -38,11 +29,11 @@ fn every_cut_has_its_verdict(rt: HostRuntime) -> Result<(), Fail> {
             (_, _) => return Err(Fail::new("another verdict")),
         }
     }
-    match check_file::<Pair<Single<Equality>, Single<Whole>>>(FILE) {
+    match check_file::<OverWhole>(FILE) {
         Verdict::Established(seal) => {
             assert_eq!(rt; seal.steps(), 5);
             Ok(())
-        },
+        }
         Verdict::Open(_) => Err(Fail::new("open")),
         Verdict::Refused(_) => Err(Fail::new("refused")),
     }

@@ -7,3 +7,5 @@ mod cuts;
 mod limits;
 #[cfg(test)]
 mod lines;
+#[cfg(test)]
+mod pairs;

@@ -1,14 +1,9 @@
+use crate::pairs::{OverFractions, OverWhole};
 use claimfile::report;
-use equality::Equality;
-use linear::{Fractions, Whole};
 use std::alloc::Global;
 use std::process::Abort;
 use std::test::Fail;
-use theory::{Pair, Single};
-
-type OverFractions = Pair<Single<Equality>, Single<Fractions>>;
-
-type OverWhole = Pair<Single<Equality>, Single<Whole>>;
+use theory::Theory;
 
 // A file, and the line that is printed of it.
 #[derive(Clone, Copy)]
@@ -17,19 +12,10 @@ struct Case<'a> {
     line: &'a str,
 }
 
-// Over fractions.
-fn prints(rt: &impl Abort, heap: Global, cases: &[Case]) -> Result<(), Fail> {
+// Each file prints its line, over a theory.
+fn prints<T: Theory + Drop>(rt: &impl Abort, heap: Global, cases: &[Case]) -> Result<(), Fail> {
     for case in cases {
-        let text = report::<OverFractions>(heap, case.file)?;
-        assert!(rt; text.as_str() == case.line, "{}", case.line);
-    }
-    Ok(())
-}
-
-// Over whole numbers.
-fn prints_whole(rt: &impl Abort, heap: Global, cases: &[Case]) -> Result<(), Fail> {
-    for case in cases {
-        let text = report::<OverWhole>(heap, case.file)?;
+        let text = report::<T>(heap, case.file)?;
         assert!(rt; text.as_str() == case.line, "{}", case.line);
     }
     Ok(())
@@ -63,8 +49,8 @@ fn verdicts(rt: HostRuntime) -> Result<(), Fail> {
             line: "OPEN literals 0 steps 2 splits 2 branches 5\n",
         },
     ];
-    prints(&rt, rt.alloc(), &cases)?;
-    prints_whole(&rt, rt.alloc(), &cases)
+    prints::<OverFractions>(&rt, rt.alloc(), &cases)?;
+    prints::<OverWhole>(&rt, rt.alloc(), &cases)
 }
 
 #[test]
@@ -107,8 +93,8 @@ fn the_reader_refuses(rt: HostRuntime) -> Result<(), Fail> {
             line: "REFUSED 4 offset 4 place 1 depth 1 side 0 theory 0 detail 0\n",
         },
     ];
-    prints(&rt, rt.alloc(), &cases)?;
-    prints_whole(&rt, rt.alloc(), &cases)
+    prints::<OverFractions>(&rt, rt.alloc(), &cases)?;
+    prints::<OverWhole>(&rt, rt.alloc(), &cases)
 }
 
 #[test]
@@ -155,8 +141,8 @@ fn the_claim_refuses(rt: HostRuntime) -> Result<(), Fail> {
             line: "REFUSED 9 offset 1 place 0 depth 0 side 2 theory 0 detail 0\n",
         },
     ];
-    prints(&rt, rt.alloc(), &cases)?;
-    prints_whole(&rt, rt.alloc(), &cases)
+    prints::<OverFractions>(&rt, rt.alloc(), &cases)?;
+    prints::<OverWhole>(&rt, rt.alloc(), &cases)
 }
 
 #[test]
@@ -203,9 +189,10 @@ fn fractions_refuse(rt: HostRuntime) -> Result<(), Fail> {
             line: "REFUSED 11 offset 3 place 1 depth 0 side 1 theory 2 detail 0\n",
         },
     ];
-    prints(&rt, rt.alloc(), &cases)
+    prints::<OverFractions>(&rt, rt.alloc(), &cases)
 }
 
+// not one list with that of fractions: each line stands as it is printed
 #[test]
 fn whole_numbers_refuse(rt: HostRuntime) -> Result<(), Fail> {
     let cases = [
@@ -250,5 +237,5 @@ fn whole_numbers_refuse(rt: HostRuntime) -> Result<(), Fail> {
             line: "REFUSED 16 offset 3 place 1 depth 0 side 1 theory 3 detail 0\n",
         },
     ];
-    prints_whole(&rt, rt.alloc(), &cases)
+    prints::<OverWhole>(&rt, rt.alloc(), &cases)
 }
