@@ -1,5 +1,5 @@
 -- The run over equality and rows.
-use Rattle.std.proofs.Common.{false, List, [], ◌∷◌, pos, negsuc, ◌*ℤ◌, refl, ap, lit<}
+use Rattle.std.proofs.Common.{false, List, [], ◌∷◌, pos, negsuc, ◌*ℤ◌, Ok, refl, ap, lit<}
 use lib.Signed.{le_z_yes}
 use Rattle.facts.specs.declared.fact.Fact.{Fact}
 use Rattle.facts.specs.declared.fact.Relation.{Relation}
@@ -57,7 +57,7 @@ both_run =
     let g1 = and_fact (go l3) (lit< tt) (SentStep.Zero 1) 1 Inference.Zero (refl, refl) (now Relation.NonNegative zero_row) refl tt in
     let g2 = and_fact g1 (lit< tt) (SentStep.Add 1 0 (pos 1)) 1 (Inference.Add 0 (factor (pos 1) tt)) (refl, (factor (pos 1) tt, refl, refl)) (now Relation.NonNegative r1) (ap (within_room 3 two) (adds two 0 (factor (pos 1) tt) Relation.NonNegative Relation.NonNegative zero_row r1 r1 tt refl refl (row_of_some _ _ r1 refl refl))) tt in
     let g3 = and_equality g2 (lit< tt) (SentStep.Antisymmetry 1 1 0 1) 1 (Inference.Antisymmetry 1 n0 n1) (refl, (n0, n1, refl, refl, refl)) n0 n1 (ap (within_room 3 two) (agrees two 1 n0 n1 r1 r2 refl apart back)) (lit< tt) in
-    let g4 = and_fact g3 (lit< tt) (SentStep.Reflexivity 0 (bare 0)) 0 (Inference.Reflexivity (Term.Bare n0)) (refl, (Term.Bare n0, refl, refl)) (Outcome.Current (Fact.Equal (Term.Bare n0) (Term.Bare n0))) refl tt in
-    let g5 = and_fact g4 (lit< tt) (SentStep.Transitivity 0 1 0) 0 (Inference.Transitivity 1 false) (refl, (false, refl, refl)) (Outcome.Current (Fact.Equal (Term.Bare n0) (Term.Bare n1))) refl tt in
+    let g4 = and_fact g3 (lit< tt) (SentStep.Reflexivity 0 (bare 0)) 0 (Inference.Reflexivity (Term.Bare n0)) (refl, (Term.Bare n0, refl, refl)) (Ok (Outcome.Current (Fact.Equal (Term.Bare n0) (Term.Bare n0)))) refl tt in
+    let g5 = and_fact g4 (lit< tt) (SentStep.Transitivity 0 1 0) 0 (Inference.Transitivity 1 false) (refl, (false, refl, refl)) (Ok (Outcome.Current (Fact.Equal (Term.Bare n0) (Term.Bare n1)))) refl tt in
     let end = and_closed g5 (lit< tt) (SentStep.Clash 0 0) 0 (Inference.Clash 0) (refl, refl) refl in
     sealed_so both both_sound squeezed _ l3.sent by_both _ end

@@ -1,5 +1,5 @@
 -- The run over rows of whole numbers.
-use Rattle.std.proofs.Common.{List, [], ◌∷◌, pos, negsuc, refl, ap, lit<}
+use Rattle.std.proofs.Common.{List, [], ◌∷◌, pos, negsuc, Ok, refl, ap, lit<}
 use Rattle.facts.specs.declared.fact.Fact.{Fact}
 use Rattle.facts.specs.declared.fact.Relation.{Relation}
 use Rattle.facts.specs.declared.literal.SentRow.{SentRow}
@@ -64,7 +64,7 @@ rows_run =
     let g1 = and_fact (go l3) (lit< tt) (SentStep.Zero 1) 1 Inference.Zero (refl, refl) (now Relation.NonNegative zero_row) refl tt in
     let g2 = and_fact g1 (lit< tt) (SentStep.Add 1 2 (pos 1)) 1 (Inference.Add 2 (factor (pos 1) tt)) (refl, (factor (pos 1) tt, refl, refl)) (now Relation.Positive r2) (ap (within_room 3 three) (adds three 2 (factor (pos 1) tt) Relation.NonNegative Relation.Positive zero_row r2 r2 tt refl refl (row_of_some _ _ r2 refl refl))) tt in
     let g3 = and_fact g2 (lit< tt) (SentStep.Strengthen 1) 1 Inference.Strengthen (refl, refl) (now Relation.NonNegative r3) (ap (within_room 3 three) (strengthens three r2 r3 (row_of_some _ _ r3 refl refl))) tt in
-    let g4 = and_fact g3 (lit< tt) (SentStep.Push 1) 1 Inference.Push (refl, refl) (Outcome.Pushed (Fact.Linear Relation.NonNegative r3)) refl tt in
+    let g4 = and_fact g3 (lit< tt) (SentStep.Push 1) 1 Inference.Push (refl, refl) (Ok (Outcome.Pushed (Fact.Linear Relation.NonNegative r3))) refl tt in
     let g5 = and_fact g4 (lit< tt) (SentStep.Zero 1) 1 Inference.Zero (refl, refl) (now Relation.NonNegative zero_row) refl tt in
     let g6 = and_fact g5 (lit< tt) (SentStep.Add 1 0 (pos 1)) 1 (Inference.Add 0 (factor (pos 1) tt)) (refl, (factor (pos 1) tt, refl, refl)) (now Relation.NonNegative r0) (ap (within_room 3 four) (adds four 0 (factor (pos 1) tt) Relation.NonNegative Relation.NonNegative zero_row r0 r0 tt refl refl (row_of_some _ _ r0 refl refl))) tt in
     let g7 = and_fact g6 (lit< tt) (SentStep.Add 1 1 (negsuc 2)) 1 (Inference.Add 1 (factor (negsuc 2) tt)) (refl, (factor (negsuc 2) tt, refl, refl)) (now Relation.NonNegative r4) (ap (within_room 3 four) (adds four 1 (factor (negsuc 2) tt) Relation.NonNegative Relation.Zero r0 r1 r4 tt refl refl (row_of_some _ _ r4 refl refl))) tt in

@@ -1,5 +1,5 @@
 -- The counts of a run's seal, by the contract of a whole run.
-use Rattle.std.proofs.Common.{◌≡◌, ℕ, List, length, IfOk, Some, None, Ok, Err, Option, Result, sym, refl, ap, ◌∙◌, subst, arith}
+use Rattle.std.proofs.Common.{◌≡◌, ℕ, List, length, IfOk, Some, None, Ok, Err, Option, Result, sym, refl, ap, ◌∙◌, subst}
 use Rattle.std.specs.declared.alloc.AllocError.{AllocError}
 use Rattle.claim.specs.declared.sheet.Line.{Line}
 use Rattle.facts.specs.Valuations.{Valuation}
@@ -26,8 +26,8 @@ module _ (admits : Valuation → Type 0) (whole : (v : Valuation) → v.denomina
         sealed = λ literals steps splits r.
             let one = same literals steps splits r in
             let (d, i, j, k) = run.sealed_by x is in
-            ap (λ n. Some (counts n x.steps x.splits)) (i ∙ ap length one.literals_taken ∙ r.literals_counted)
-            ∙ ap (λ n. Some (counts literals n x.splits)) (j ∙ ap length one.steps_taken ∙ r.steps_counted)
+            ap (λ n. Some (counts n x.counts.steps x.counts.splits)) (i ∙ ap length one.literals_taken ∙ r.literals_counted)
+            ∙ ap (λ n. Some (counts literals n x.counts.splits)) (j ∙ ap length one.steps_taken ∙ r.steps_counted)
             ∙ ap (λ n. Some (counts literals steps n)) (k ∙ ap splits_in one.steps_taken ∙ r.splits_counted);
         open_for_good = λ v never. absurd (run.no_false_seal x is v (whole v never.whole) (taken_true v book ls lrs run.places run.literals run.literals_sent never.all_true));
       }
@@ -39,8 +39,7 @@ module _ (admits : Valuation → Type 0) (whole : (v : Valuation) → v.denomina
             let one = same literals steps splits r in
             let derived : Derives book 0 run.places run.steps = subst (λ ps. Derives book 0 ps run.steps) (sym one.same_places) (subst (Derives book 0 r.places) (sym one.steps_taken) r.derives) in
             let (x, shut) = run.seals derived in
-            let z : ◌≡◌ {A = ℕ} 0 1 = cc in
-            absurd (omega arith);
+            absurd cc;
         open_for_good = λ v never. refl;
       }
 

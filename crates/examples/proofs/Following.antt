@@ -24,13 +24,13 @@ pub record TookStep (p : ℕ) (s : SentStep) (t : Option Step) : Type 0 where
   pub early : p < most_calls
 
 step_taken : (book : Book) (p : ℕ) (s : SentStep) (st : State) (a : Answer) (t : Option Step) (after : State) → StepCall book p s st a t after → a ≡ Ok tt → TookStep p s t
-step_taken book p s st a t after StepCall.over e = let z : ◌≡◌ {A = ℕ} 0 1 = cc in absurd (omega arith)
-step_taken book p s st a t after (StepCall.bad_field b h) e = let z : ◌≡◌ {A = ℕ} 0 1 = cc in absurd (omega arith)
-step_taken book p s st a t after (StepCall.too_many h k) e = let z : ◌≡◌ {A = ℕ} 0 1 = cc in absurd (omega arith)
-step_taken book p s st a t after (StepCall.cannot_infer b i c h k l) e = let z : ◌≡◌ {A = ℕ} 0 1 = cc in absurd (omega arith)
-step_taken book p s st a t after (StepCall.cannot_tell b i n m h k l f) e = let z : ◌≡◌ {A = ℕ} 0 1 = cc in absurd (omega arith)
-step_taken book p s st a t after (StepCall.too_deep n m h k l) e = let z : ◌≡◌ {A = ℕ} 0 1 = cc in absurd (omega arith)
-step_taken book p s st a t after (StepCall.cannot_split n m h k l f) e = let z : ◌≡◌ {A = ℕ} 0 1 = cc in absurd (omega arith)
+step_taken book p s st a t after StepCall.over e = absurd cc
+step_taken book p s st a t after (StepCall.bad_field b h) e = absurd cc
+step_taken book p s st a t after (StepCall.too_many h k) e = absurd cc
+step_taken book p s st a t after (StepCall.cannot_infer b i c h k l) e = absurd cc
+step_taken book p s st a t after (StepCall.cannot_tell b i n m h k l f) e = absurd cc
+step_taken book p s st a t after (StepCall.too_deep n m h k l) e = absurd cc
+step_taken book p s st a t after (StepCall.cannot_split n m h k l f) e = absurd cc
 step_taken book p s st a t after (StepCall.inferred b i h k l) e = record { step = Step.Infer b i; is = refl; checked = h; early = k }
 step_taken book p s st a t after (StepCall.handed_on b i n m h k l r) e = record { step = Step.Infer b i; is = refl; checked = h; early = k }
 step_taken book p s st a t after (StepCall.finished b i h k l) e = record { step = Step.Infer b i; is = refl; checked = h; early = k }

@@ -1,5 +1,5 @@
 -- What inferences over rows come to.
-use Rattle.std.proofs.Common.{◌≡◌, ℕ, true, T, leb, List, [], ◌∷◌, ℤ, pos, negsuc, nat_abs, Some, refl, lit≤}
+use Rattle.std.proofs.Common.{◌≡◌, ℕ, true, T, leb, List, [], ◌∷◌, ℤ, pos, negsuc, nat_abs, Some, Ok, Err, Result, refl, lit≤}
 use lib.Signed.{le_z_yes}
 use Rattle.std.specs.List.{slice_get}
 use Rattle.facts.specs.Valuations.{Compares}
@@ -28,8 +28,8 @@ condition_fails = record { refusal = Refusal.ConditionFails; detail = 0; theory 
 abbrev pub factor : (z : ℤ) → T (leb (nat_abs z) 1_000_000) → Factor
 factor z h = record { value = z; sized = lit≤ h }
 
-abbrev pub now : Relation → Row → Outcome
-now how r = Outcome.Current (Fact.Linear how r)
+abbrev pub now : Relation → Row → Result Outcome Cause
+now how r = Ok (Outcome.Current (Fact.Linear how r))
 
 -- a current row takes another unless it is = 0
 abbrev Takes : Relation → Type 0
@@ -38,30 +38,30 @@ Takes Relation.Positive = Unit {0}
 Takes Relation.Zero = ⊥
 
 -- M makes a sum current
-pub adds : (fs : List Fact) (i : ℕ) (c : Factor) (now how : Relation) (a b r : Row) → Takes now → slice_get fs i ≡ Some (Fact.Linear how b) → may_multiply how c.value ≡ true → sum_row a c.value b ≡ Some r → whole_rules.outcome (Inference.Add i c) fs (Some (Fact.Linear now a)) ≡ Outcome.Current (Fact.Linear (joined now how) r)
+pub adds : (fs : List Fact) (i : ℕ) (c : Factor) (now how : Relation) (a b r : Row) → Takes now → slice_get fs i ≡ Some (Fact.Linear how b) → may_multiply how c.value ≡ true → sum_row a c.value b ≡ Some r → whole_rules.outcome (Inference.Add i c) fs (Some (Fact.Linear now a)) ≡ Ok (Outcome.Current (Fact.Linear (joined now how) r))
 adds fs i c Relation.NonNegative how a b r t e m s = rw (e, m, s)
 adds fs i c Relation.Positive how a b r t e m s = rw (e, m, s)
 adds fs i c Relation.Zero how a b r t e m s = absurd t
 
 -- I makes a row one less
-pub strengthens : (fs : List Fact) (r s : Row) → lowered r ≡ Some s → whole_rules.outcome Inference.Strengthen fs (Some (Fact.Linear Relation.Positive r)) ≡ Outcome.Current (Fact.Linear Relation.NonNegative s)
+pub strengthens : (fs : List Fact) (r s : Row) → lowered r ≡ Some s → whole_rules.outcome Inference.Strengthen fs (Some (Fact.Linear Relation.Positive r)) ≡ Ok (Outcome.Current (Fact.Linear Relation.NonNegative s))
 strengthens fs r s e = rw e
 
 -- Q hands on an equality of two names
-pub agrees : (fs : List Fact) (i : ℕ) (n m : Name) (a b : Row) → slice_get fs i ≡ Some (Fact.Linear Relation.NonNegative b) → Difference a n m → Difference b m n → whole_rules.outcome (Inference.Antisymmetry i n m) fs (Some (Fact.Linear Relation.NonNegative a)) ≡ Outcome.Equal n m
+pub agrees : (fs : List Fact) (i : ℕ) (n m : Name) (a b : Row) → slice_get fs i ≡ Some (Fact.Linear Relation.NonNegative b) → Difference a n m → Difference b m n → whole_rules.outcome (Inference.Antisymmetry i n m) fs (Some (Fact.Linear Relation.NonNegative a)) ≡ Ok (Outcome.Equal n m)
 agrees fs i n m a b e d x = rw (e, ← holds_so (is_difference a n m) d, ← holds_so (is_difference b m n) x)
 
 -- U makes a row's cut current
-pub cuts : (fs : List Fact) (r s : Row) → cut_row r ≡ Some s → whole_rules.outcome Inference.Cut fs (Some (Fact.Linear Relation.NonNegative r)) ≡ Outcome.Current (Fact.Linear Relation.NonNegative s)
+pub cuts : (fs : List Fact) (r s : Row) → cut_row r ≡ Some s → whole_rules.outcome Inference.Cut fs (Some (Fact.Linear Relation.NonNegative r)) ≡ Ok (Outcome.Current (Fact.Linear Relation.NonNegative s))
 cuts fs r s e = rw e
 
 -- F on a row with no names goes by its constant
 module _ (fs : List Fact) (how : Relation) (r : Row) where
-  pub falsifies : Nameless r → (Compares how r.constant → ⊥) → whole_rules.outcome Inference.Falsify fs (Some (Fact.Linear how r)) ≡ Outcome.Contradiction
+  pub falsifies : Nameless r → (Compares how r.constant → ⊥) → whole_rules.outcome Inference.Falsify fs (Some (Fact.Linear how r)) ≡ Ok Outcome.Contradiction
   falsifies none fails =
       rw (← holds_so (does_contradict how r) (record { nameless = none; fails = fails }))
 
-  pub falsifies_not : Compares how r.constant → whole_rules.outcome Inference.Falsify fs (Some (Fact.Linear how r)) ≡ Outcome.Refused condition_fails
+  pub falsifies_not : Compares how r.constant → whole_rules.outcome Inference.Falsify fs (Some (Fact.Linear how r)) ≡ Err condition_fails
   falsifies_not is = rw (← holds_not (does_contradict how r) (λ c. c.fails is))
 
 pub cut_example : Holds (Example.comes_to whole_rules [] (Some twice) Inference.Cut (Outcome.Current once))

@@ -1,6 +1,7 @@
 -- A list of calls has one history.
 use Rattle.std.proofs.Common.{◌≡◌, ℕ, List, [], ◌∷◌, ◌++◌, length, Some, None, Ok, Option, sym, refl, ap, ◌∙◌, subst, arith, length-append}
 use mathlib.Core.Path.{fun_ext}
+use Rattle.facts.specs.Faults.{because, out_of_range}
 use Rattle.facts.specs.Fields.{Sums, Stands, added, first_bad, literal_fields, sent}
 use Rattle.facts.specs.Literals.{LiteralChecked}
 use Rattle.facts.specs.declared.fact.Fact.{Fact}
@@ -16,7 +17,7 @@ use Rattle.linear.specs.Rows.{listed}
 use Rattle.linear.specs.Listed.{listed_is}
 use Rattle.linear.specs.RowsMade.{row_of_some}
 use Rattle.claim.proofs.Standing.{one_step}
-use Rattle.claim.specs.Calls.{Answer, LiteralCall, because, refused}
+use Rattle.claim.specs.Calls.{Answer, LiteralCall, refused}
 use Rattle.claim.specs.Histories.{LiteralsSent, if_taken}
 use Rattle.claim.specs.declared.sent.SentStep.{SentStep}
 use Rattle.claim.specs.declared.step.Step.{Step}
@@ -48,7 +49,7 @@ one_fact (Literal.Linear how s) f g (q, e, h) (r, d, k) = let same : q ≡ r = o
 -- ---- and has one answer
 
 differ : {X : Type 0} {Y : Type 0} (o : Option Y) (y : Y) → o ≡ Some y → o ≡ None → X
-differ o y e f = let z : ◌≡◌ {A = ℕ} 0 1 = cc in absurd (omega arith)
+differ o y e f = absurd cc
 
 unfull : {X : Type 0} (ps : Places) (w : Wanted) → Room ps w → Full ps w → X
 unfull ps w room (a, p, f, e, h, many) = absurd (omega (arith, room a p f e h))
@@ -79,7 +80,7 @@ module _ (book : Book) (ps : Places) (n : ℕ) (l : Literal) where
   one_call : (a b : Answer) (x y : Places) → LiteralCall book ps n l a x → LiteralCall book ps n l b y → (a ≡ b) × (x ≡ y)
   one_call a b x y (LiteralCall.bad_field i h) (LiteralCall.bad_field j k) =
       let same : i ≡ j = cc in
-      (ap (λ m. refused (because Refusal.FieldOutOfRange m) 0 n 0) same, refl)
+      (ap (λ m. refused (out_of_range m) 0 n 0) same, refl)
   one_call a b x y (LiteralCall.bad_field i h) (LiteralCall.too_many k m) = bad i h k
   one_call a b x y (LiteralCall.bad_field i h) (LiteralCall.not_kept g e k m s) = bad i h k.0
   one_call a b x y (LiteralCall.bad_field i h) (LiteralCall.taken g after k m s t) = bad i h k.0
@@ -92,7 +93,7 @@ module _ (book : Book) (ps : Places) (n : ℕ) (l : Literal) where
   one_call a b x y (LiteralCall.not_kept f d h few r) (LiteralCall.not_kept g e k m s) =
       let both = alike f g h k (Some d) (Some e) r s in
       let same : d ≡ e = cc in
-      (ap (λ z. refused (because z 0) 0 n 0) same, refl)
+      (ap (λ z. refused (because z) 0 n 0) same, refl)
   one_call a b x y (LiteralCall.not_kept f d h few r) (LiteralCall.taken g after k m s t) =
       differ (Some d) d refl (alike f g h k (Some d) None r s)
   one_call a b x y (LiteralCall.taken f after h few r t) (LiteralCall.bad_field j k) = bad j k h.0

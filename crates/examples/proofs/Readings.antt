@@ -1,11 +1,12 @@
 -- What readings state.
-use Rattle.std.proofs.Common.{◌≡◌, ℕ, ◌≤◌, Some, Ok, Err, Result, sym, refl, ap, ◌∙◌, arith}
+use Rattle.std.proofs.Common.{◌≡◌, ℕ, ◌≤◌, Some, Ok, Err, Result, sym, refl, ap, ◌∙◌}
 use Rattle.facts.proofs.Indices.{same_name}
+use Rattle.facts.specs.Faults.{out_of_range}
 use Rattle.facts.specs.Fields.{first_bad}
 use Rattle.facts.specs.declared.fault.Cause.{Cause}
 use Rattle.facts.specs.declared.name.Name.{Name}
 use Rattle.reading.specs.Bounds.{bounds_list}
-use Rattle.reading.specs.Converter.{ReadingChecked, reading_fields, out_of_range, rule, highest_count}
+use Rattle.reading.specs.Converter.{ReadingChecked, reading_fields, rule, highest_count}
 use Rattle.reading.specs.declared.bound.Bounds.{Bounds}
 use Rattle.reading.specs.declared.count.SentReading.{SentReading}
 use Rattle.reading.proofs.Rule.{taken}
@@ -24,15 +25,14 @@ module _ (s : SentReading) where
           ap Ok (e ∙ ap (λ x. rule x s.count) (same_name m n (same ∙ sym named)))
       only (Err c) (byte, bad, e) =
           let good = (taken s n (rule n s.count) named few refl).good in
-          let z : ◌≡◌ {A = ℕ} 0 1 = cc in
-          absurd (omega arith)
+          absurd cc
 
   pub bad_byte : (byte : ℕ) → first_bad (reading_fields s) ≡ Some byte → NotRead 6 byte s
   bad_byte byte bad =
       record { cause = out_of_range byte; by_number = refl; with_detail = refl; checked = (byte, bad, refl); only = only }
     where
       only : (r : Result Bounds Cause) → ReadingChecked s r → r ≡ Err (out_of_range byte)
-      only (Ok b) h = let good = h.good in let z : ◌≡◌ {A = ℕ} 0 1 = cc in absurd (omega arith)
+      only (Ok b) h = let good = h.good in absurd cc
       only (Err c) (other, worse, e) =
           let same : other ≡ byte = cc in
           ap Err (e ∙ ap out_of_range same)

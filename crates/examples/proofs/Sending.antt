@@ -1,5 +1,5 @@
 -- Calls that are taken, one after the other.
-use Rattle.std.proofs.Common.{◌≡◌, ℕ, ◌+◌, ◌<◌, ◌≤◌, Bool, true, false, cond, eqb, List, [], ◌∷◌, ◌++◌, length, Some, None, Ok, Option, sym, refl, subst, arith, length-append}
+use Rattle.std.proofs.Common.{◌≡◌, ℕ, ◌+◌, ◌<◌, ◌≤◌, Bool, true, false, cond, eqb, List, [], ◌∷◌, ◌++◌, length, Some, None, Ok, Err, Option, Result, sym, refl, subst, arith, length-append}
 use Rattle.std.specs.Option.{option_map}
 use Rattle.facts.proofs.Truth.{equal_checked, distinct_checked, linear_checked}
 use Rattle.facts.specs.Fields.{first_bad, term_fields, row_fields, sent, Sums}
@@ -7,13 +7,14 @@ use Rattle.facts.specs.Literals.{LiteralChecked}
 use Rattle.facts.specs.declared.fact.Comparison.{Comparison}
 use Rattle.facts.specs.declared.fact.Fact.{Fact}
 use Rattle.facts.specs.declared.fact.Relation.{Relation}
+use Rattle.facts.specs.declared.fault.Cause.{Cause}
 use Rattle.facts.specs.declared.literal.Literal.{Literal}
 use Rattle.facts.specs.declared.literal.SentRow.{SentRow}
 use Rattle.facts.specs.declared.name.Name.{Name}
 use Rattle.facts.specs.declared.row.Row.{Row}
 use Rattle.facts.specs.declared.term.Term.{Term}
 use Rattle.theory.specs.Places.{Place, Places, empty, add}
-use Rattle.theory.specs.Rules.{Rules, Book, Wanted, WantedSomewhere, Room, LiteralAnswer, literal_wanted, telling_wanted, with_wanted, outcome_at, changed}
+use Rattle.theory.specs.Rules.{Rules, Book, Wanted, WantedSomewhere, Room, LiteralAnswer, literal_wanted, telling_wanted, with_wanted, outcome_at, changed, changed_by}
 use Rattle.theory.specs.declared.inference.Inference.{Inference}
 use Rattle.theory.specs.declared.inference.Outcome.{Outcome}
 use Rattle.claim.specs.Calls.{Answer, LiteralCall, StepCall, most_calls}
@@ -54,14 +55,17 @@ changed_few n (Outcome.Current f) p h = omega arith
 changed_few n (Outcome.Pushed f) p h = add_few n f p h
 changed_few n (Outcome.Equal x y) p h = omega arith
 changed_few n Outcome.Contradiction p h = omega arith
-changed_few n (Outcome.Refused c) p h = omega arith
 
-changed_at_few : (n : ℕ) (a : ℕ) (o : Outcome) (ps : Places) → AtMost n ps → AtMost (n + 1) (changed_at a o ps)
-changed_at_few n a o ps h b = at (eqb b a) (ps b) (h b)
+changed_by_few : (n : ℕ) (r : Result Outcome Cause) (p : Place) → length p.facts ≤ n → length (changed_by r p).facts ≤ n + 1
+changed_by_few n (Ok o) p h = changed_few n o p h
+changed_by_few n (Err c) p h = omega arith
+
+changed_at_few : (n : ℕ) (a : ℕ) (r : Result Outcome Cause) (ps : Places) → AtMost n ps → AtMost (n + 1) (changed_at a r ps)
+changed_at_few n a r ps h b = at (eqb b a) (ps b) (h b)
   where
-    at : (t : Bool) (q : Option Place) → Few n q → Few (n + 1) (cond t (option_map (changed o) q) q)
+    at : (t : Bool) (q : Option Place) → Few n q → Few (n + 1) (cond t (option_map (changed_by r) q) q)
     at true None k = tt
-    at true (Some p) k = changed_few n o p k
+    at true (Some p) k = changed_by_few n r p k
     at false None k = tt
     at false (Some p) k = omega arith
 
@@ -112,18 +116,18 @@ go b = record { sent = StepsSent.none; few = b.few }
 
 module _ {book : Book} {ps : Places} {literals n : ℕ} {ss : List SentStep} {rs : List Answer} {qs : Places} {taken : List Step} (g : Going book ps literals n ss rs qs taken) (early : literals + length taken < most_calls) (s : SentStep) (a : ℕ) (i : Inference) (checked : StepChecked s (Ok (Step.Infer a i))) where
   -- an inference that leaves a fact
-  pub and_fact : (o : Outcome) → outcome_at book qs a i ≡ o → LeavesFact o → Going book ps literals (n + 1) (ss ++ (s ∷ [])) (rs ++ (Ok tt ∷ [])) (changed_at a o qs) (taken ++ (Step.Infer a i ∷ []))
-  and_fact o e leaves =
+  pub and_fact : (r : Result Outcome Cause) → outcome_at book qs a i ≡ r → LeavesFact r → Going book ps literals (n + 1) (ss ++ (s ∷ [])) (rs ++ (Ok tt ∷ [])) (changed_at a r qs) (taken ++ (Step.Infer a i ∷ []))
+  and_fact r e leaves =
       record {
-        sent = StepsSent.more s (Ok tt) (Some (Step.Infer a i)) (working (changed_at a o qs) []) g.sent (
+        sent = StepsSent.more s (Ok tt) (Some (Step.Infer a i)) (working (changed_at a r qs) []) g.sent (
             subst (λ x. StepCall book (literals + length taken) s (working qs []) (Ok tt) (Some (Step.Infer a i)) (working (changed_at a x qs) [])) e
             (StepCall.inferred a i checked early (subst LeavesFact (sym e) leaves))
             );
-        few = changed_at_few n a o qs g.few;
+        few = changed_at_few n a r qs g.few;
       }
 
   -- one that hands on an equality
-  pub and_equality : (x y : Name) → outcome_at book qs a i ≡ Outcome.Equal x y → n < 64 → Going book ps literals (n + 1) (ss ++ (s ∷ [])) (rs ++ (Ok tt ∷ [])) (told book (Comparison.Equal x y) qs) (taken ++ (Step.Infer a i ∷ []))
+  pub and_equality : (x y : Name) → outcome_at book qs a i ≡ Ok (Outcome.Equal x y) → n < 64 → Going book ps literals (n + 1) (ss ++ (s ∷ [])) (rs ++ (Ok tt ∷ [])) (told book (Comparison.Equal x y) qs) (taken ++ (Step.Infer a i ∷ []))
   and_equality x y e few =
       record {
         sent = StepsSent.more s (Ok tt) (Some (Step.Infer a i)) (working (told book (Comparison.Equal x y) qs) []) g.sent (StepCall.handed_on a i x y checked early e (has_room n qs (telling_wanted book (Comparison.Equal x y)) g.few few));
@@ -131,5 +135,5 @@ module _ {book : Book} {ps : Places} {literals n : ℕ} {ss : List SentStep} {rs
       }
 
   -- and the last one, a contradiction
-  pub and_closed : outcome_at book qs a i ≡ Outcome.Contradiction → StepsSent book ps literals (ss ++ (s ∷ [])) (rs ++ (Ok tt ∷ [])) closed (taken ++ (Step.Infer a i ∷ []))
+  pub and_closed : outcome_at book qs a i ≡ Ok Outcome.Contradiction → StepsSent book ps literals (ss ++ (s ∷ [])) (rs ++ (Ok tt ∷ [])) closed (taken ++ (Step.Infer a i ∷ []))
   and_closed e = StepsSent.more s (Ok tt) (Some (Step.Infer a i)) closed g.sent (StepCall.finished a i checked early e)

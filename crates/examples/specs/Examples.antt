@@ -53,9 +53,9 @@ pub record NotRead (number detail : ℕ) (s : SentReading) : Type 0 where
   pub checked : ReadingChecked s (Err cause)
   pub only : (r : Result Bounds Cause) → ReadingChecked s r → r ≡ Err cause
 
-pub record RefusedBy (number detail theory : ℕ) (o : Outcome) : Type 0 where
+pub record RefusedBy (number detail theory : ℕ) (r : Result Outcome Cause) : Type 0 where
   pub cause : Cause
-  pub is : o ≡ Outcome.Refused cause
+  pub is : r ≡ Err cause
   pub by_number : refusal_number cause.refusal ≡ number
   pub with_detail : cause.detail ≡ detail
   pub by_theory : cause.theory ≡ theory
@@ -66,7 +66,7 @@ Holds (Example.never_sealed book ls v) = NeverSealed book ls v
 Holds (Example.stores v n c) = Stores v n c
 Holds (Example.states s bs) = States s bs
 Holds (Example.not_read s number detail) = NotRead number detail s
-Holds (Example.comes_to r fs current i o) = r.outcome i fs current ≡ o
+Holds (Example.comes_to r fs current i o) = r.outcome i fs current ≡ Ok o
 Holds (Example.refused r fs current i number detail) = RefusedBy number detail r.number (r.outcome i fs current)
 
 abbrev pub AllHold : List Example → Type 0

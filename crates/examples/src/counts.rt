@@ -1,32 +1,21 @@
 // What a run ends in.
 ghost use Rattle.std.specs.Prelude.{◌≡◌, IfOk};
-ghost use Rattle.claim.specs.Sheets.{line_of};
 ghost use Rattle.examples.specs.Examples.{both};
 ghost use Rattle.examples.specs.Runs.{CountsTold, counts_in};
 
-use claim::{Ending, Line, Seal, SentStep, replay};
+use claim::{Ending, Line, SentStep, replay};
 use equality::Equality;
 use facts::Literal;
 use linear::Whole;
 use std::alloc::{AllocError, Global};
 use theory::{Pair, Single};
 
-// The counts of a seal.
-fn counts_of(seal: Seal) -> Line
-    ensures { result ≡ line_of seal }
-{
-    Line {
-        literals: seal.literals(),
-        steps: seal.steps(),
-        splits: seal.splits(),
-    }
-}
-
+// The counts of the seal, if there is one.
 fn counts_in(ending: Ending) -> Option<Line>
     ensures { result ≡ counts_in ending }
 {
     match ending {
-        Ending::Sealed(seal) => Some(counts_of(seal)),
+        Ending::Sealed(seal) => Some(Line::from(&seal)),
         Ending::Open(_) => None,
     }
 }

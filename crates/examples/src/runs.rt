@@ -26,9 +26,7 @@ fn symbol_of(index: u8) -> SentTerm
 {
     SentTerm {
         tag: 1,
-        letter: 0,
-        first: index,
-        second: 0,
+        ..name_of(index)
     }
 }
 

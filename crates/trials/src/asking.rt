@@ -1,11 +1,12 @@
 // How the trials of theories ask, and what they are answered.
-use facts::{Comparison, Fact, Name, Refusal, Relation, Row, Symbol, Term};
+use facts::{Cause, Comparison, Fact, Name, Refusal, Relation, Row, Symbol, Term};
 use std::process::Abort;
 use std::test::Fail;
 use theory::{Factor, Inference, Outcome, Theory};
 
 // An answer's number, detail and theory. The number is 0 where an inference is taken, 100 for a
 // contradiction, 101 for an equality that is handed on, with its two names, and else the refusal's.
+// Numbers, since these trials hold refusals to the numbers that docs/ lists; 100 and 101 are none of them.
 pub(crate) type Answer = (u8, u8, u8);
 
 pub(crate) const TAKEN: Answer = (0, 0, 0);
@@ -26,20 +27,19 @@ pub(crate) enum Step {
     Drop(u8),
 }
 
-fn answer(outcome: Outcome) -> Answer {
+fn answer(outcome: Result<Outcome, Cause>) -> Answer {
     match outcome {
-        Outcome::Current(_) => TAKEN,
-        Outcome::Pushed(_) => TAKEN,
-        Outcome::Equal(n, m) => (101, n.index(), m.index()),
-        Outcome::Contradiction => CONTRADICTION,
-        Outcome::Refused(cause) => (cause.refusal.number(), cause.detail, cause.theory),
+        Ok(Outcome::Current(_) | Outcome::Pushed(_)) => TAKEN,
+        Ok(Outcome::Equal(n, m)) => (101, n.index(), m.index()),
+        Ok(Outcome::Contradiction) => CONTRADICTION,
+        Err(cause) => (cause.refusal.number(), cause.detail, cause.theory),
     }
 }
 
 // The number of a refusal, or 0.
 fn number(res: Result<(), Refusal>) -> u8 {
     match res {
-        Ok(_) => 0,
+        Ok(()) => 0,
         Err(refusal) => refusal.number(),
     }
 }
@@ -141,22 +141,13 @@ pub(crate) fn antisymmetry(fact: u8, first: u8, second: u8) -> Inference {
 }
 
 // The constant of a row that became current, and its multiples of n0 and n1.
-fn numbers(outcome: Outcome) -> Option<(i64, i64, i64)> {
-    match outcome {
-        Outcome::Current(fact) => row_numbers(fact),
-        _ => None,
-    }
-}
-
-fn row_numbers(fact: Fact) -> Option<(i64, i64, i64)> {
-    match fact {
-        Fact::Linear(_, row) => {
-            Some((
-                row.constant(),
-                row.coefficient(name(0)),
-                row.coefficient(name(1)),
-            ))
-        }
-        _ => None,
-    }
+fn numbers(outcome: Result<Outcome, Cause>) -> Option<(i64, i64, i64)> {
+    let Ok(Outcome::Current(Fact::Linear(_, row))) = outcome else {
+        return None;
+    };
+    Some((
+        row.constant(),
+        row.coefficient(name(0)),
+        row.coefficient(name(1)),
+    ))
 }

@@ -24,36 +24,30 @@ fn row(constant: i32, first: SentPair, second: SentPair) -> Literal {
     Literal::Linear(Relation::NonNegative, row)
 }
 
-// The byte of the first bad field, or 0.
-fn bad_byte(literal: Literal) -> u8 {
-    match literal.check() {
-        Ok(_) => 0,
-        Err(byte) => byte,
-    }
+// The byte of the first bad field.
+fn bad_byte(literal: Literal) -> Option<u8> {
+    literal.check().err().map(|bad| bad.byte)
 }
 
-fn bad_sides(left: SentTerm, right: SentTerm) -> u8 {
+fn bad_sides(left: SentTerm, right: SentTerm) -> Option<u8> {
     bad_byte(Literal::Equal(left, right))
 }
 
 // The coefficient of a name in the row that a literal stands for.
 fn coefficient(literal: Literal, name: u8) -> Option<i64> {
     let name = Name::new(name)?;
-    let Ok(fact) = literal.check() else {
+    let Ok(Fact::Linear(_, row)) = literal.check() else {
         return None;
     };
-    match fact {
-        Fact::Linear(_, row) => Some(row.coefficient(name)),
-        _ => None,
-    }
+    Some(row.coefficient(name))
 }
 
 #[test]
 fn names_end_at_31(rt: HostRuntime) {
     let n0 = term(0, 0, 0, 0);
-    assert_eq!(rt; bad_sides(n0, term(0, 0, 31, 0)), 0);
-    assert_eq!(rt; bad_sides(n0, term(0, 0, 32, 0)), 7);
-    assert_eq!(rt; bad_sides(term(0, 0, 32, 0), n0), 3);
+    assert_eq!(rt; bad_sides(n0, term(0, 0, 31, 0)), None);
+    assert_eq!(rt; bad_sides(n0, term(0, 0, 32, 0)), Some(7));
+    assert_eq!(rt; bad_sides(term(0, 0, 32, 0), n0), Some(3));
     assert!(rt; Name::new(31).is_some());
     assert!(rt; Name::new(32).is_none());
 }
@@ -61,14 +55,14 @@ fn names_end_at_31(rt: HostRuntime) {
 #[test]
 fn a_tag_says_what_its_fields_may_be(rt: HostRuntime) {
     let n0 = term(0, 0, 0, 0);
-    assert_eq!(rt; bad_sides(term(3, 0, 0, 0), n0), 1);
-    assert_eq!(rt; bad_sides(term(0, 1, 0, 0), n0), 2);
-    assert_eq!(rt; bad_sides(term(0, 0, 0, 1), n0), 4);
-    assert_eq!(rt; bad_sides(term(1, 15, 31, 0), n0), 0);
-    assert_eq!(rt; bad_sides(term(1, 16, 32, 1), n0), 2);
-    assert_eq!(rt; bad_sides(n0, term(1, 0, 0, 1)), 8);
-    assert_eq!(rt; bad_sides(n0, term(2, 15, 31, 31)), 0);
-    assert_eq!(rt; bad_sides(n0, term(2, 15, 31, 32)), 8);
+    assert_eq!(rt; bad_sides(term(3, 0, 0, 0), n0), Some(1));
+    assert_eq!(rt; bad_sides(term(0, 1, 0, 0), n0), Some(2));
+    assert_eq!(rt; bad_sides(term(0, 0, 0, 1), n0), Some(4));
+    assert_eq!(rt; bad_sides(term(1, 15, 31, 0), n0), None);
+    assert_eq!(rt; bad_sides(term(1, 16, 32, 1), n0), Some(2));
+    assert_eq!(rt; bad_sides(n0, term(1, 0, 0, 1)), Some(8));
+    assert_eq!(rt; bad_sides(n0, term(2, 15, 31, 31)), None);
+    assert_eq!(rt; bad_sides(n0, term(2, 15, 31, 32)), Some(8));
 }
 
 #[test]
@@ -92,13 +86,13 @@ fn a_bare_name_is_told(rt: HostRuntime) -> Result<(), Fail> {
 #[test]
 fn numbers_end_at_a_thousand_million(rt: HostRuntime) {
     let most = 1_000_000_000;
-    assert_eq!(rt; bad_byte(row(most, pair(0, -most), pair(31, most))), 0);
-    assert_eq!(rt; bad_byte(row(most + 1, pair(0, 0), pair(0, 0))), 1);
-    assert_eq!(rt; bad_byte(row(i32::MIN, pair(0, 0), pair(0, 0))), 1);
-    assert_eq!(rt; bad_byte(row(0, pair(0, -most - 1), pair(32, 0))), 6);
-    assert_eq!(rt; bad_byte(row(0, pair(0, i32::MAX), pair(0, 0))), 6);
-    assert_eq!(rt; bad_byte(row(0, pair(0, 1), pair(32, 0))), 10);
-    assert_eq!(rt; bad_byte(row(0, pair(0, 1), pair(31, i32::MIN))), 11);
+    assert_eq!(rt; bad_byte(row(most, pair(0, -most), pair(31, most))), None);
+    assert_eq!(rt; bad_byte(row(most + 1, pair(0, 0), pair(0, 0))), Some(1));
+    assert_eq!(rt; bad_byte(row(i32::MIN, pair(0, 0), pair(0, 0))), Some(1));
+    assert_eq!(rt; bad_byte(row(0, pair(0, -most - 1), pair(32, 0))), Some(6));
+    assert_eq!(rt; bad_byte(row(0, pair(0, i32::MAX), pair(0, 0))), Some(6));
+    assert_eq!(rt; bad_byte(row(0, pair(0, 1), pair(32, 0))), Some(10));
+    assert_eq!(rt; bad_byte(row(0, pair(0, 1), pair(31, i32::MIN))), Some(11));
 }
 
 #[test]

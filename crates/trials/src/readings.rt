@@ -4,12 +4,13 @@ use std::alloc::Global;
 use std::process::Abort;
 use std::test::Fail;
 
-// How many literals a reading states, or the detail of its refusal plus 10.
-fn literals(name: u8, count: u16) -> u32 {
-    match (SentReading { name, count }).check() {
-        Ok(bounds) => bounds.count(),
-        Err(cause) => 10 + u32::from(cause.detail),
-    }
+// How many literals a reading states, or the detail of its refusal.
+fn literals(name: u8, count: u16) -> Result<u32, u8> {
+    let reading = SentReading { name, count };
+    reading
+        .check()
+        .map(|bounds| bounds.count())
+        .map_err(|cause| cause.detail)
 }
 
 fn prints(rt: &impl Abort, heap: Global, input: &[u8], text: &str) -> Result<(), Fail> {
@@ -19,12 +20,12 @@ fn prints(rt: &impl Abort, heap: Global, input: &[u8], text: &str) -> Result<(),
 
 #[test]
 fn counts_at_their_edges(rt: HostRuntime) {
-    assert_eq!(rt; literals(0, 0), 2);
-    assert_eq!(rt; literals(0, 1), 2);
-    assert_eq!(rt; literals(31, 4094), 2);
-    assert_eq!(rt; literals(31, 4095), 1);
-    assert_eq!(rt; literals(31, 4096), 12);
-    assert_eq!(rt; literals(32, 4096), 11);
+    assert_eq!(rt; literals(0, 0), Ok(2));
+    assert_eq!(rt; literals(0, 1), Ok(2));
+    assert_eq!(rt; literals(31, 4094), Ok(2));
+    assert_eq!(rt; literals(31, 4095), Ok(1));
+    assert_eq!(rt; literals(31, 4096), Err(2));
+    assert_eq!(rt; literals(32, 4096), Err(1));
 }
 
 #[test]
