@@ -11,7 +11,7 @@ type OverFractions = Pair<Single<Equality>, Single<Fractions>>;
 
 type OverWhole = Pair<Single<Equality>, Single<Whole>>;
 
-// The line of the first checker.
+// The line of the first checker. Theories are types, so a value is turned into one by a match.
 fn first_line(heap: Global, arithmetic: Arithmetic, file: &[u8]) -> Result<String, AllocError> {
     match arithmetic {
         Arithmetic::Fractions => report::<OverFractions>(heap, file),
@@ -19,21 +19,13 @@ fn first_line(heap: Global, arithmetic: Arithmetic, file: &[u8]) -> Result<Strin
     }
 }
 
-fn compare_at(
-    heap: Global,
-    arithmetic: Arithmetic,
-    file: &[u8],
-    tally: &mut Tally,
-) -> Result<(), AllocError> {
-    let first = first_line(heap, arithmetic, file)?;
-    let verdict = second::check(heap, arithmetic, file)?;
-    let second = format!(in heap; "{verdict}\n")?;
-    tally.add(verdict, first.as_str() == second.as_str());
-    Ok(())
-}
-
 // Checks a file over fractions and over whole numbers, by both checkers.
 pub fn compare(heap: Global, file: &[u8], tally: &mut Tally) -> Result<(), AllocError> {
-    compare_at(heap, Arithmetic::Fractions, file, tally)?;
-    compare_at(heap, Arithmetic::Whole, file, tally)
+    for arithmetic in [Arithmetic::Fractions, Arithmetic::Whole] {
+        let first = first_line(heap, arithmetic, file)?;
+        let verdict = second::check(heap, arithmetic, file)?;
+        let second = format!(in heap; "{verdict}\n")?;
+        tally.add(verdict, first.as_str() == second.as_str());
+    }
+    Ok(())
 }

@@ -2,6 +2,8 @@
 // often the two said different things.
 #![tactic(auto)]
 
+ghost use Rattle.std.specs.Iterator.{IsFinite};
+
 mod both;
 mod tally;
 
@@ -28,22 +30,21 @@ const SAMPLES: [&str; 6] = [
     "turned-bound.claim",
 ];
 
-fn worked(rt: &HostRuntime) -> anyhow::Result<()> {
+// Compares what both checkers say of each file of a group, and prints what they came to.
+fn compare_all<I: Iterator + Drop, F: Fn(I::Item) -> anyhow::Result<Vec<u8>>>(
+    rt: &HostRuntime,
+    name: &str,
+    items: I,
+    file: F,
+) -> anyhow::Result<()>
+    requires items { I.can_next items × IsFinite (I.remaining items) }
+    requires file { F.IsAlwaysCallable file }
+{
     let mut tally = Tally::new();
-    for file in WORKED {
-        compare(rt.alloc(), file, &mut tally)?;
+    for item in items {
+        compare(rt.alloc(), file(item)?.as_slice(), &mut tally)?;
     }
-    rt.print(tally.line(rt.alloc(), "Worked")?)?;
-    Ok(())
-}
-
-fn samples(rt: &HostRuntime) -> anyhow::Result<()> {
-    let mut tally = Tally::new();
-    for name in SAMPLES {
-        let file = fs::read(rt, name)?;
-        compare(rt.alloc(), file.as_slice(), &mut tally)?;
-    }
-    rt.print(tally.line(rt.alloc(), "Samples")?)?;
+    println!(rt; "{name}: {tally}")?;
     Ok(())
 }
 
@@ -55,26 +56,28 @@ fn seeds(group: Group) -> u64 {
     }
 }
 
-fn generated(rt: &HostRuntime, group: Group) -> anyhow::Result<()> {
-    let mut tally = Tally::new();
-    for seed in 0..seeds(group) {
-        let file = generate::file(rt.alloc(), group, seed)?;
-        compare(rt.alloc(), file.as_slice(), &mut tally)?;
-    }
-    let name = format!(in rt.alloc(); "{group:?}")?;
-    rt.print(tally.line(rt.alloc(), name.as_str())?)?;
-    Ok(())
-}
-
-fn run(rt: &HostRuntime) -> anyhow::Result<()> {
-    worked(rt)?;
-    samples(rt)?;
-    for group in GROUPS {
-        generated(rt, group)?;
-    }
-    Ok(())
-}
-
 fn main(rt: HostRuntime) -> anyhow::Result<()> {
-    run(&rt)
+    let heap = rt.alloc();
+    compare_all(
+        &rt,
+        "Worked",
+        WORKED.into_iter(),
+        |file| -> anyhow::Result<Vec<u8>> { Ok(Vec::from_slice(heap, file)?) },
+    )?;
+    compare_all(
+        &rt,
+        "Samples",
+        SAMPLES.into_iter(),
+        |name| -> anyhow::Result<Vec<u8>> { Ok(fs::read(&rt, name)?) },
+    )?;
+    for group in GROUPS {
+        let name = format!(in heap; "{group:?}")?;
+        compare_all(
+            &rt,
+            name.as_str(),
+            0..seeds(group),
+            |seed| -> anyhow::Result<Vec<u8>> { Ok(generate::file(heap, group, seed)?) },
+        )?;
+    }
+    Ok(())
 }

@@ -2,7 +2,7 @@
 ghost use Rattle.std.specs.Prelude.{◌≡◌, ◌+◌, min, MatchBool};
 
 use second::Verdict;
-use std::alloc::{AllocError, Global};
+use std::fmt;
 
 // Verdicts by kind, refusals by number, and how often two checkers said different things.
 #[derive(Clone, Copy)]
@@ -10,87 +10,70 @@ pub struct Tally {
     files: u32,
     established: u32,
     open: u32,
-    refused: [u32; 20],
+    refused: [u32; 19],
     disagreements: u32,
+}
+
+// Counts one more.
+fn one_more(count: &mut u32)
+    ensures { count.new ≡ min (count.old + 1) 4294967295 }
+{
+    *count = count.saturating_add(1);
 }
 
 impl Tally {
     pub fn new() -> Tally
-        ensures { result.disagreements ≡ 0 }
+        ensures files { result.files ≡ 0 }
+        ensures disagreements { result.disagreements ≡ 0 }
     {
         Tally {
             files: 0,
             established: 0,
             open: 0,
-            refused: [0; 20],
+            refused: [0; 19],
             disagreements: 0,
         }
     }
 
     // Counts a verdict, and a disagreement unless both checkers wrote the same line.
     pub fn add(&mut self, verdict: Verdict, agreed: bool)
-        ensures { MatchBool agreed (self.new.disagreements ≡ self.old.disagreements) (self.new.disagreements ≡ min (self.old.disagreements + 1) 4294967295) }
+        ensures files { self.new.files ≡ min (self.old.files + 1) 4294967295 }
+        ensures disagreements { MatchBool agreed (self.new.disagreements ≡ self.old.disagreements) (self.new.disagreements ≡ min (self.old.disagreements + 1) 4294967295) }
     {
         self.count(verdict);
         if !agreed {
-            self.disagreements = self.disagreements.saturating_add(1);
+            one_more(&mut self.disagreements);
         }
     }
 
     fn count(&mut self, verdict: Verdict)
-        ensures { self.new.disagreements ≡ self.old.disagreements }
+        ensures files { self.new.files ≡ min (self.old.files + 1) 4294967295 }
+        ensures disagreements { self.new.disagreements ≡ self.old.disagreements }
     {
-        self.files = self.files.saturating_add(1);
+        one_more(&mut self.files);
         match verdict {
-            Verdict::Established {
-                literals: _,
-                steps: _,
-                splits: _,
-            } => self.established = self.established.saturating_add(1),
-            Verdict::Open {
-                literals: _,
-                steps: _,
-                splits: _,
-                branches: _,
-            } => self.open = self.open.saturating_add(1),
-            Verdict::Refused {
-                number,
-                offset: _,
-                place: _,
-                depth: _,
-                side: _,
-                theory: _,
-                detail: _,
-            } => {
-                if number < 20 {
-                    let so_far = self.refused[number];
-                    self.refused[number] = so_far.saturating_add(1);
-                }
-            }
+            Verdict::Established(_) => one_more(&mut self.established),
+            Verdict::Open { .. } => one_more(&mut self.open),
+            Verdict::Refused { cause, .. } => one_more(&mut self.refused[cause.refusal.number()]),
         }
     }
+}
 
-    // The line of a group.
-    pub fn line(&self, heap: Global, name: &str) -> Result<String, AllocError> {
-        let checks = self.files;
+impl fmt::Display for Tally {
+    fn fmt<W: fmt::Write>(&self, f: &mut fmt::Formatter<W>) -> fmt::Result {
+        let files = self.files;
         let established = self.established;
         let open = self.open;
         let disagreements = self.disagreements;
-        let numbers = self.numbers(heap)?;
-        format!(in heap;
-            "{name}: checks {checks} established {established} open {open} refused{numbers} disagreements {disagreements}\n"
-        )
-    }
-
-    // The numbers that files were refused by, each with how many.
-    fn numbers(&self, heap: Global) -> Result<String, AllocError> {
-        let mut text = String::new(heap);
+        write!(
+            f,
+            "checks {files} established {established} open {open} refused"
+        )?;
         for (number, count) in self.refused.iter().enumerate() {
-            let count = *count;
-            if count > 0 {
-                text.push_str(format!(in heap; " {number}:{count}")?.as_str())?;
+            if *count > 0 {
+                write!(f, " {number}:{count}")?;
             }
         }
-        Ok(text)
+        write!(f, " disagreements {disagreements}")
     }
 }

@@ -1,5 +1,5 @@
 // Certificates: literals with some goals among them, and steps that refute a goal in every branch.
-use crate::draft::{Draft, Facts};
+use crate::draft::{Address, Draft, Facts};
 use crate::mixed::{Handing, Meeting, Ordering};
 use crate::random::Random;
 use crate::record::{Relation, Row};
@@ -57,7 +57,7 @@ impl Goal {
         }
     }
 
-    // Refutes it, and so finishes the branch.
+    // Refutes it, and so finishes the branch. A trait of the goals would keep these arms, and only name what they call.
     fn refute(self, draft: &mut Draft) -> Result<(), AllocError> {
         match self {
             Goal::Chain(goal) => goal.refute(draft),
@@ -75,8 +75,7 @@ impl Goal {
 
 // A literal that no goal needs.
 fn idle_literal(draft: &mut Draft) -> Result<(), AllocError> {
-    let n = draft.random.name();
-    let m = draft.random.name();
+    let names = draft.random.any_names();
     let k = draft.random.signed(1000);
     match draft.random.byte(4) {
         0 => {
@@ -85,12 +84,20 @@ fn idle_literal(draft: &mut Draft) -> Result<(), AllocError> {
             draft.equal(left, right)?;
         }
         1 => {
-            draft.row(Relation::Zero, &Row::difference(k, n, m, 7))?;
+            draft.row(Relation::Zero, &Row::difference(k, names, 7))?;
         }
         2 => {
-            draft.reading(n, 4095)?;
+            draft.reading(names.0, 4095)?;
         }
         _ => (),
+    }
+    Ok(())
+}
+
+// Pushes where there are not many facts.
+fn idle_push(draft: &mut Draft, address: Address) -> Result<(), AllocError> {
+    if draft.facts.at(address) < ENOUGH_FACTS {
+        draft.push(address)?;
     }
     Ok(())
 }
@@ -100,15 +107,11 @@ fn idle_steps(draft: &mut Draft) -> Result<(), AllocError> {
     let term = draft.random.term();
     if draft.random.once_in(3) {
         draft.records.reflexivity(0, term)?;
-        if draft.facts.terms < ENOUGH_FACTS {
-            draft.push_terms()?;
-        }
+        idle_push(draft, Address::Terms)?;
     }
     if draft.random.once_in(3) {
-        draft.records.put(&[b'O', 1])?;
-        if draft.facts.rows < ENOUGH_FACTS {
-            draft.push_rows()?;
-        }
+        draft.records.zero()?;
+        idle_push(draft, Address::Rows)?;
     }
     Ok(())
 }
@@ -139,9 +142,8 @@ fn refute_one(draft: &mut Draft, goals: &[Goal], first: bool) -> Result<(), Allo
 
 // Opens a split on any two names; its second and third branch wait.
 fn open_split(draft: &mut Draft, waiting: &mut Vec<Facts>) -> Result<(), AllocError> {
-    let first = draft.random.name();
-    let second = draft.random.name();
-    draft.split(first, second)?;
+    let names = draft.random.any_names();
+    draft.split(names)?;
     waiting.push(draft.facts)?;
     waiting.push(draft.facts)?;
     Ok(())
@@ -156,6 +158,7 @@ fn finish(draft: &mut Draft, goals: &[Goal], waiting: &mut Vec<Facts>) -> Result
     };
     let eager = draft.random.coin();
     let mut first = true;
+    // more turns than the splits and the branches that they leave
     for _ in 0..u8::MAX {
         idle_steps(draft)?;
         if splits > 0 && draft.facts.depth < MOST_OPEN && (eager || draft.random.coin()) {

@@ -13,9 +13,10 @@ pub fn either(heap: Global, mut random: Random) -> Result<Draft, AllocError> {
 
 // A certificate that ends at any byte.
 pub fn cut(heap: Global, random: Random) -> Result<Vec<u8>, AllocError> {
-    let mut draft = either(heap, random)?;
-    let size = draft.random.index(draft.records.size().saturating_add(1));
-    let mut bytes = draft.into_bytes();
+    let draft = either(heap, random)?;
+    let mut random = draft.random;
+    let mut bytes = draft.into_bytes()?;
+    let size = random.index(bytes.len().saturating_add(1));
     bytes.truncate(size);
     Ok(bytes)
 }
@@ -24,7 +25,7 @@ pub fn cut(heap: Global, random: Random) -> Result<Vec<u8>, AllocError> {
 pub fn flipped(heap: Global, random: Random) -> Result<Vec<u8>, AllocError> {
     let draft = either(heap, random)?;
     let mut random = draft.random;
-    let mut bytes = draft.into_bytes();
+    let mut bytes = draft.into_bytes()?;
     for _ in 0..random.byte(3).saturating_add(1) {
         let at = random.index(bytes.len());
         let change = if random.coin() {
@@ -39,40 +40,25 @@ pub fn flipped(heap: Global, random: Random) -> Result<Vec<u8>, AllocError> {
     Ok(bytes)
 }
 
-// Copies a run of records.
-fn copy(from: &Records, first: usize, end: usize, to: &mut Records) -> Result<(), AllocError> {
-    for at in first..end {
-        to.put(from.record(at))?;
-    }
-    Ok(())
-}
-
 // A certificate of which two records are exchanged, one is left out or one comes twice.
 pub fn swapped(heap: Global, random: Random) -> Result<Vec<u8>, AllocError> {
     let draft = either(heap, random)?;
     let mut random = draft.random;
-    let records = draft.records;
-    let count = records.count();
-    let one = random.index(count);
-    let two = random.index(count);
+    let mut records = draft.records;
+    let one = random.index(records.list.len());
+    let two = random.index(records.list.len());
     let low = one.min(two);
-    let high = one.max(two);
-    let mut changed = Records::new(heap);
-    copy(&records, 0, low, &mut changed)?;
-    match random.byte(3) {
-        0 => {
-            changed.put(records.record(high))?;
-            copy(&records, low.saturating_add(1), high, &mut changed)?;
-            changed.put(records.record(low))?;
-            copy(&records, high.saturating_add(1), count, &mut changed)?;
-        }
-        1 => copy(&records, low.saturating_add(1), count, &mut changed)?,
-        _ => {
-            changed.put(records.record(low))?;
-            copy(&records, low, count, &mut changed)?;
+    if low < records.list.len() {
+        match random.byte(3) {
+            0 if one != two => records.list.swap(one, two),
+            1 => drop(records.list.remove(low)),
+            _ => {
+                let again = records.list[low].clone()?;
+                records.list.insert(low, again)?;
+            }
         }
     }
-    Ok(changed.into_bytes())
+    records.into_bytes()
 }
 
 // Steps whose refusals tell how many facts there are, whether there is a current one, or how many splits are open.
@@ -83,7 +69,7 @@ fn probe(records: &mut Records, random: &mut Random) -> Result<(), AllocError> {
             records.put(&[b'T', 0, 255, 0])
         }
         1 => {
-            records.put(&[b'O', 1])?;
+            records.zero()?;
             records.add(1, 255, 1)
         }
         2 => records.put(&[b'C', 0, 255, 1, 0]),
@@ -103,10 +89,9 @@ pub fn probed(heap: Global, random: Random) -> Result<Vec<u8>, AllocError> {
     let draft = either(heap, random)?;
     let mut random = draft.random;
     let begun = draft.begun;
-    let records = draft.records;
-    let steps = random.index(records.count().saturating_sub(begun));
-    let mut changed = Records::new(heap);
-    copy(&records, 0, begun.saturating_add(steps), &mut changed)?;
-    probe(&mut changed, &mut random)?;
-    Ok(changed.into_bytes())
+    let mut records = draft.records;
+    let steps = random.index(records.list.len().saturating_sub(begun));
+    records.list.truncate(begun.saturating_add(steps));
+    probe(&mut records, &mut random)?;
+    records.into_bytes()
 }

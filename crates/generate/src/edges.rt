@@ -1,7 +1,7 @@
 // Files with fields at the edges of their ranges.
 use crate::draft::Draft;
 use crate::random::Random;
-use crate::record::{Relation, Row, Term};
+use crate::record::{Names, Relation, Row, Term};
 use std::alloc::AllocError;
 
 /// Values at the edges of each range.
@@ -17,7 +17,7 @@ const TURNS: [u8; 4] = [0, 1, 2, 255];
 
 const ADDRESSES: [u8; 6] = [0, 1, 2, 3, 4, 255];
 
-const COUNTS: [i32; 7] = [0, 1, 4094, 4095, 4096, 4097, 65535];
+const COUNTS: [u16; 7] = [0, 1, 4094, 4095, 4096, 4097, 65535];
 
 const NUMBERS: [i32; 10] = [
     0,
@@ -60,34 +60,16 @@ fn edge_term(random: &mut Random) -> Term {
 
 // A row with one field, or all numbers, at an edge.
 fn edge_row(random: &mut Random) -> Row {
-    let n = random.name();
-    let m = random.name();
-    let mut row = Row::difference(random.small(9), n, m, 3);
+    let names = random.any_names();
+    let mut row = Row::difference(random.small(9), names, 3);
     let at = random.index(4);
     match random.byte(4) {
-        0 => row.constant = random.pick_number(&NUMBERS),
-        1 => {
-            if let Some(pair) = row.pairs.get_mut(at) {
-                pair.name = random.pick(&NAMES);
-            }
-        }
-        2 => {
-            if let Some(pair) = row.pairs.get_mut(at) {
-                pair.coefficient = random.pick_number(&NUMBERS);
-            }
-        }
-        _ => row = Row::difference(1_000_000_000, n, m, -1_000_000_000),
+        0 => row.constant = random.pick(&NUMBERS),
+        1 => row.pairs[at].name = random.pick(&NAMES),
+        2 => row.pairs[at].coefficient = random.pick(&NUMBERS),
+        _ => row = Row::difference(1_000_000_000, names, -1_000_000_000),
     }
     row
-}
-
-// A relation.
-fn any_relation(random: &mut Random) -> Relation {
-    match random.byte(3) {
-        0 => Relation::AtLeast,
-        1 => Relation::Above,
-        _ => Relation::Zero,
-    }
 }
 
 // Literals with a field at an edge, and then perhaps the begin.
@@ -96,9 +78,9 @@ pub fn literals(draft: &mut Draft) -> Result<(), AllocError> {
         let good = draft.random.term();
         let edge = edge_term(&mut draft.random);
         let row = edge_row(&mut draft.random);
-        let relation = any_relation(&mut draft.random);
+        let relation = draft.random.relation();
         let name = draft.random.pick(&NAMES);
-        let count = u16::try_from(draft.random.pick_number(&COUNTS)).unwrap_or(0);
+        let count = draft.random.pick(&COUNTS);
         match draft.random.byte(5) {
             0 => draft.records.terms(b'E', edge, good)?,
             1 => draft.records.terms(b'D', good, edge)?,
@@ -120,10 +102,10 @@ fn prepare(draft: &mut Draft) -> Result<(), AllocError> {
     draft.equal(Term::bare(1), Term::bare(2))?;
     draft.different(Term::bare(1), Term::bare(2))?;
     draft.equal(Term::one(4, 1), term)?;
-    draft.row(Relation::AtLeast, &Row::difference(2, 1, 2, 0))?;
-    draft.row(Relation::Above, &Row::difference(3, 2, 1, 0))?;
-    draft.row(Relation::Zero, &Row::difference(1, 1, 3, 0))?;
-    draft.row(Relation::AtLeast, &Row::difference(5, 2, 1, 0))?;
+    draft.row(Relation::AtLeast, &Row::difference(2, Names(1, 2), 0))?;
+    draft.row(Relation::Above, &Row::difference(3, Names(2, 1), 0))?;
+    draft.row(Relation::Zero, &Row::difference(1, Names(1, 3), 0))?;
+    draft.row(Relation::AtLeast, &Row::difference(5, Names(2, 1), 0))?;
     draft.begin()?;
     if draft.random.once_in(8) {
         return Ok(());
@@ -134,7 +116,7 @@ fn prepare(draft: &mut Draft) -> Result<(), AllocError> {
         Term::two(9, 1, 2)
     };
     draft.records.reflexivity(0, start)?;
-    draft.records.put(&[b'O', 1])?;
+    draft.records.zero()?;
     if draft.random.coin() {
         let fact = draft.random.byte(4);
         draft.records.add(1, fact, 1)?;
@@ -183,7 +165,7 @@ fn edge_rows_step(draft: &mut Draft, address: u8) -> Result<(), AllocError> {
     let count = draft.facts.rows;
     let fact = edge_fact(draft, count);
     let good_fact = draft.random.byte(count);
-    let factor = draft.random.pick_number(&FACTORS);
+    let factor = draft.random.pick(&FACTORS);
     let name = draft.random.pick(&NAMES);
     match draft.random.byte(10) {
         0 => draft.records.add(address, fact, 1),

@@ -56,12 +56,12 @@ pub const GROUPS: [Group; 9] = [
     Group::Long,
 ];
 
-/// The file of a group and a seed.
+/// The file of a group and a seed. A table of functions would be no plainer: the groups are closed.
 pub fn file(heap: Global, group: Group, seed: u64) -> Result<Vec<u8>, AllocError> {
     let random = Random::new(seed);
     match group {
-        Group::Certificate => Ok(certificate::certificate(heap, random, false)?.into_bytes()),
-        Group::WholeCertificate => Ok(certificate::certificate(heap, random, true)?.into_bytes()),
+        Group::Certificate => certificate::certificate(heap, random, false)?.into_bytes(),
+        Group::WholeCertificate => certificate::certificate(heap, random, true)?.into_bytes(),
         Group::Cut => changed::cut(heap, random),
         Group::Flipped => changed::flipped(heap, random),
         Group::Swapped => changed::swapped(heap, random),
@@ -72,11 +72,11 @@ pub fn file(heap: Global, group: Group, seed: u64) -> Result<Vec<u8>, AllocError
     }
 }
 
-// A file of the group of limits.
+// A file of the group of limits. A table of functions could not say how often each comes.
 fn at_limits(heap: Global, mut random: Random) -> Result<Vec<u8>, AllocError> {
     let case = random.byte(20);
     if case == 0 {
-        return Ok(stages::after_the_close(heap, random)?.into_bytes());
+        return stages::after_the_close(heap, random)?.into_bytes();
     }
     let mut draft = Draft::new(heap, random);
     match case {
@@ -92,7 +92,7 @@ fn at_limits(heap: Global, mut random: Random) -> Result<Vec<u8>, AllocError> {
         12..=13 => edges::literals(&mut draft)?,
         _ => edges::steps(&mut draft)?,
     }
-    Ok(draft.into_bytes())
+    draft.into_bytes()
 }
 
 // A file of the group of noise.
@@ -103,7 +103,7 @@ fn at_random(heap: Global, random: Random) -> Result<Vec<u8>, AllocError> {
     } else {
         noise::plausible(&mut draft)?;
     }
-    Ok(draft.into_bytes())
+    draft.into_bytes()
 }
 
 // A file of 32,768 bytes: a row 0 > 0 (25), the begin (1), 16,363 zero rows (2 each), two additions (7 each)
@@ -113,7 +113,7 @@ fn at_full_length(heap: Global, random: Random) -> Result<Vec<u8>, AllocError> {
     draft.row(Relation::Above, &Row::multiple(0, 0, 0))?;
     draft.begin()?;
     for _ in 0..16_363 {
-        draft.records.put(&[b'O', 1])?;
+        draft.records.zero()?;
     }
     draft.records.add(1, 0, 1)?;
     draft.records.add(1, 0, 2)?;
@@ -121,7 +121,7 @@ fn at_full_length(heap: Global, random: Random) -> Result<Vec<u8>, AllocError> {
         0 => draft.records.put(&[b'P', 1])?,
         1 => draft.records.put(&[b'T', 0])?,
         2 => draft.records.put(&[b'F', 1, b'F'])?,
-        _ => draft.records.put(&[b'F', 1])?,
+        _ => draft.records.falsify()?,
     }
-    Ok(draft.into_bytes())
+    draft.into_bytes()
 }

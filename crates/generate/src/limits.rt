@@ -1,25 +1,28 @@
 // Files at the limits of a claim: full tables, open splits, large rows.
-use crate::draft::Draft;
-use crate::record::{Relation, Row, Term};
+use crate::draft::{Address, Draft};
+use crate::record::{Names, Relation, Row, Term};
 use crate::rows::{Combination, Dividing};
 use std::alloc::AllocError;
 
-// So many literals over terms.
-fn fill_terms(draft: &mut Draft, count: u8) -> Result<(), AllocError> {
+// So many literals at an address.
+fn fill(draft: &mut Draft, address: Address, count: u8) -> Result<(), AllocError> {
     for _ in 0..count {
         let name = draft.random.name();
-        draft.equal(Term::bare(name), Term::bare(name))?;
+        match address {
+            Address::Terms => draft.equal(Term::bare(name), Term::bare(name))?,
+            Address::Rows => draft.row(Relation::AtLeast, &Row::multiple(1, name, 0))?,
+        };
     }
     Ok(())
 }
 
-// So many literals over rows.
-fn fill_rows(draft: &mut Draft, count: u8) -> Result<(), AllocError> {
-    for _ in 0..count {
-        let name = draft.random.name();
-        draft.row(Relation::AtLeast, &Row::multiple(1, name, 0))?;
+// One of the two addresses.
+fn one_address(draft: &mut Draft) -> Address {
+    if draft.random.coin() {
+        Address::Rows
+    } else {
+        Address::Terms
     }
-    Ok(())
 }
 
 // About as many facts as an address holds.
@@ -32,31 +35,27 @@ pub fn full_by_literals(draft: &mut Draft) -> Result<(), AllocError> {
     let count = nearly_full(draft);
     let name = draft.random.name();
     match draft.random.byte(3) {
-        0 => fill_terms(draft, count)?,
-        1 => fill_rows(draft, count)?,
+        0 => fill(draft, Address::Terms, count)?,
+        1 => fill(draft, Address::Rows, count)?,
         _ => {
-            fill_rows(draft, count)?;
+            fill(draft, Address::Rows, count)?;
             draft.reading(name, 12)?;
         }
     }
     draft.begin()?;
-    draft.records.put(&[b'O', 1])
+    draft.records.zero()
 }
 
 // Pushes until a table is full.
 pub fn full_by_pushes(draft: &mut Draft) -> Result<(), AllocError> {
     let count = nearly_full(draft);
-    let at_rows = draft.random.coin();
-    if at_rows {
-        fill_rows(draft, count.min(64))?;
-    } else {
-        fill_terms(draft, count.min(64))?;
-    }
+    let address = one_address(draft);
+    fill(draft, address, count.min(64))?;
     draft.begin()?;
     draft.records.reflexivity(0, Term::bare(3))?;
-    draft.records.put(&[b'O', 1])?;
+    draft.records.zero()?;
     for _ in 0..3 {
-        draft.records.put(&[b'P', u8::from(at_rows)])?;
+        draft.records.put(&[b'P', address as u8])?;
     }
     Ok(())
 }
@@ -64,24 +63,20 @@ pub fn full_by_pushes(draft: &mut Draft) -> Result<(), AllocError> {
 // Equalities handed on until a table is full.
 pub fn full_by_handing(draft: &mut Draft) -> Result<(), AllocError> {
     let count = nearly_full(draft).min(64).saturating_sub(2);
-    let n = draft.random.name();
-    let m = draft.random.other_name(n);
-    draft.row(Relation::AtLeast, &Row::difference(1, n, m, 0))?;
-    draft.row(Relation::AtLeast, &Row::difference(1, m, n, 0))?;
-    if draft.random.coin() {
-        fill_rows(draft, count)?;
-    } else {
-        fill_terms(draft, count)?;
-    }
+    let names = draft.random.names();
+    draft.row(Relation::AtLeast, &Row::difference(1, names, 0))?;
+    draft.row(Relation::AtLeast, &Row::difference(1, names.exchanged(), 0))?;
+    let address = one_address(draft);
+    fill(draft, address, count)?;
     draft.begin()?;
-    draft.records.reflexivity(0, Term::bare(n))?;
-    draft.records.put(&[b'O', 1])?;
+    draft.records.reflexivity(0, Term::bare(names.0))?;
+    draft.records.zero()?;
     draft.records.add(1, 0, 1)?;
     for _ in 0..5 {
         if draft.random.coin() {
-            draft.records.put(&[b'X', 0])?;
+            draft.records.propagate()?;
         } else {
-            draft.records.put(&[b'Q', 1, 1, n, m])?;
+            draft.records.antisymmetry(1, names)?;
         }
     }
     Ok(())
@@ -91,15 +86,14 @@ pub fn full_by_handing(draft: &mut Draft) -> Result<(), AllocError> {
 pub fn many_splits(draft: &mut Draft) -> Result<(), AllocError> {
     let count = draft.random.byte(4).saturating_add(53);
     match draft.random.byte(3) {
-        0 => fill_rows(draft, count)?,
-        1 => fill_terms(draft, count)?,
+        0 => fill(draft, Address::Rows, count)?,
+        1 => fill(draft, Address::Terms, count)?,
         _ => (),
     }
     draft.begin()?;
     for _ in 0..draft.random.byte(3).saturating_add(7) {
-        let first = draft.random.name();
-        let second = draft.random.name();
-        draft.split(first, second)?;
+        let names = draft.random.any_names();
+        draft.split(names)?;
     }
     Ok(())
 }
@@ -108,14 +102,12 @@ pub fn many_splits(draft: &mut Draft) -> Result<(), AllocError> {
 pub fn same_name(draft: &mut Draft) -> Result<(), AllocError> {
     let n = draft.random.name();
     draft.begin()?;
-    let (_term, row) = draft.split(n, n)?;
-    draft.records.put(&[b'O', 1])?;
-    draft.records.add(1, row, 1)?;
-    draft.records.put(&[b'F', 1])?;
+    let told = draft.split(Names(n, n))?;
+    draft.records.zero()?;
+    draft.records.add(1, told.row, 1)?;
+    draft.records.falsify()?;
     draft.records.reflexivity(0, Term::bare(n))?;
-    draft
-        .records
-        .put(&[b'N', 0, draft.facts.terms.saturating_sub(1)])
+    draft.records.clash(told.term)
 }
 
 // A coefficient at the largest size of a row, then past it.
@@ -123,20 +115,20 @@ pub fn large_coefficient(draft: &mut Draft) -> Result<(), AllocError> {
     let n = draft.random.name();
     let size = draft
         .random
-        .pick_number(&[1_000_000, 999_999, 1_000_001, -1_000_000]);
+        .pick(&[1_000_000, 999_999, 1_000_001, -1_000_000]);
     let up = draft.row(Relation::AtLeast, &Row::multiple(size, n, 0))?;
     let down = draft.row(
         Relation::AtLeast,
         &Row::multiple(size.saturating_neg(), n, 0),
     )?;
     draft.begin()?;
-    draft.records.put(&[b'O', 1])?;
+    draft.records.zero()?;
     draft.records.add(1, up, 1_000_000)?;
-    let largest = draft.push_rows()?;
+    let largest = draft.push(Address::Rows)?;
     if draft.random.coin() {
         draft.records.add(1, up, 1)?;
     }
-    draft.records.put(&[b'O', 1])?;
+    draft.records.zero()?;
     draft.records.add(1, down, 1_000_000)?;
     draft.records.add(1, largest, 2)?;
     draft.records.add(1, largest, 1)
@@ -147,21 +139,21 @@ pub fn large_constant(draft: &mut Draft) -> Result<(), AllocError> {
     let n = draft.random.name();
     let size = draft
         .random
-        .pick_number(&[-1_000_000, -999_999, 1_000_000, -1_000_001]);
+        .pick(&[-1_000_000, -999_999, 1_000_000, -1_000_001]);
     let row = draft.row(Relation::Above, &Row::multiple(1, n, size))?;
     let one = draft.row(Relation::Zero, &Row::multiple(0, n, 1))?;
     draft.begin()?;
-    draft.records.put(&[b'O', 1])?;
+    draft.records.zero()?;
     draft.records.add(1, row, 1_000_000)?;
     match draft.random.byte(4) {
         0 => draft.records.add(1, one, 1)?,
         1 => draft.records.add(1, one, -1)?,
-        2 => draft.records.put(&[b'U', 1])?,
+        2 => draft.records.cut()?,
         _ => (),
     }
-    draft.records.put(&[b'I', 1])?;
-    draft.records.put(&[b'U', 1])?;
-    draft.records.put(&[b'F', 1])
+    draft.records.strengthen()?;
+    draft.records.cut()?;
+    draft.records.falsify()
 }
 
 // Rows that add up to a contradiction, or to just none.

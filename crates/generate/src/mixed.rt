@@ -1,13 +1,12 @@
 // Goals that equality and rows refute together.
 use crate::draft::Draft;
-use crate::record::{Relation, Row, Term};
+use crate::record::{Names, Position, Relation, Row, Term};
 use std::alloc::AllocError;
 
 /// k·n − k·m ≥ 0 and j·m − j·n ≥ 0, with n and m, or a symbol's answers to them, that differ.
 #[derive(Clone, Copy)]
 pub struct Meeting {
-    n: u8,
-    m: u8,
+    names: Names,
     forth: u8,
     back: u8,
     before: Term,
@@ -18,29 +17,25 @@ pub struct Meeting {
 impl Meeting {
     // States two rows and a difference.
     pub fn state(draft: &mut Draft) -> Result<Meeting, AllocError> {
-        let n = draft.random.name();
-        let m = draft.random.other_name(n);
+        let names = draft.random.names();
         let k = draft.random.small(1000).saturating_add(1);
         let j = draft.random.small(1000).saturating_add(1);
         let factor = draft.random.small(1000).saturating_add(1);
         let letter = draft.random.byte(16);
         let bare = draft.random.coin();
-        let before = if bare {
-            Term::bare(n)
-        } else {
-            Term::one(letter, n)
+        let applied = |name| {
+            if bare {
+                Term::bare(name)
+            } else {
+                Term::one(letter, name)
+            }
         };
-        let after = if bare {
-            Term::bare(m)
-        } else {
-            Term::one(letter, m)
-        };
-        let back = draft.row(Relation::AtLeast, &Row::difference(j, m, n, 0))?;
-        let forth = draft.row(Relation::AtLeast, &Row::difference(k, n, m, 0))?;
-        let apart = draft.different(before, after)?;
+        let before = applied(names.0);
+        let back = draft.row(Relation::AtLeast, &Row::difference(j, names.exchanged(), 0))?;
+        let forth = draft.row(Relation::AtLeast, &Row::difference(k, names, 0))?;
+        let apart = draft.different(before, applied(names.1))?;
         Ok(Meeting {
-            n,
-            m,
+            names,
             forth,
             back,
             before,
@@ -51,17 +46,17 @@ impl Meeting {
 
     // Rows hand n = m on, and equality goes on from there.
     pub fn refute(self, draft: &mut Draft) -> Result<(), AllocError> {
-        draft.records.put(&[b'O', 1])?;
+        draft.records.zero()?;
         draft.records.add(1, self.forth, self.factor)?;
-        draft.records.put(&[b'Q', 1, self.back, self.n, self.m])?;
-        let (equal, _zero) = draft.told();
+        draft.records.antisymmetry(self.back, self.names)?;
+        let equal = draft.told().term;
         draft.records.reflexivity(0, self.before)?;
         if self.before.tag == 0 {
-            draft.records.put(&[b'T', 0, equal, 0])?;
+            draft.records.transitivity(equal, false)?;
         } else {
-            draft.records.put(&[b'C', 0, equal, 1, 0])?;
+            draft.records.congruence(equal, Position::First, false)?;
         }
-        draft.records.put(&[b'N', 0, self.apart])
+        draft.records.clash(self.apart)
     }
 }
 
@@ -78,15 +73,15 @@ pub struct Handing {
 impl Handing {
     // States an equality and a row.
     pub fn state(draft: &mut Draft) -> Result<Handing, AllocError> {
-        let n = draft.random.name();
-        let m = draft.random.other_name(n);
+        let names = draft.random.names();
+        let Names(n, m) = names;
         let k = draft.random.signed(1000);
         let turned = draft.random.coin();
         let fact = draft.equal_turned(turned, Term::bare(n), Term::bare(m))?;
         let row = if draft.random.coin() {
-            draft.row(Relation::Above, &Row::difference(k, n, m, 0))?
+            draft.row(Relation::Above, &Row::difference(k, names, 0))?
         } else {
-            draft.row(Relation::AtLeast, &Row::difference(k, n, m, -1))?
+            draft.row(Relation::AtLeast, &Row::difference(k, names, -1))?
         };
         Ok(Handing {
             n,
@@ -100,23 +95,20 @@ impl Handing {
     // Equality hands n = m on, and rows go on from there.
     pub fn refute(self, draft: &mut Draft) -> Result<(), AllocError> {
         draft.records.reflexivity(0, Term::bare(self.n))?;
-        draft
-            .records
-            .put(&[b'T', 0, self.fact, u8::from(self.turned)])?;
-        draft.records.put(&[b'X', 0])?;
-        let (_equal, zero) = draft.told();
-        draft.records.put(&[b'O', 1])?;
+        draft.records.transitivity(self.fact, self.turned)?;
+        draft.records.propagate()?;
+        let zero = draft.told().row;
+        draft.records.zero()?;
         draft.records.add(1, self.row, 1)?;
         draft.records.add(1, zero, self.k.saturating_neg())?;
-        draft.records.put(&[b'F', 1])
+        draft.records.falsify()
     }
 }
 
 /// n ≠ m and n − m ≥ 0, with m − n ≥ 0, or over whole numbers m − n + 1 > 0.
 #[derive(Clone, Copy)]
 pub struct Ordering {
-    n: u8,
-    m: u8,
+    names: Names,
     k: i32,
     apart: u8,
     row: u8,
@@ -127,19 +119,18 @@ pub struct Ordering {
 impl Ordering {
     // States a difference and two rows.
     pub fn state(draft: &mut Draft, whole: bool) -> Result<Ordering, AllocError> {
-        let n = draft.random.name();
-        let m = draft.random.other_name(n);
+        let names = draft.random.names();
         let k = draft.random.small(1000).saturating_add(1);
-        let apart = draft.different(Term::bare(n), Term::bare(m))?;
-        let row = draft.row(Relation::AtLeast, &Row::difference(k, n, m, 0))?;
+        let apart = draft.different(Term::bare(names.0), Term::bare(names.1))?;
+        let row = draft.row(Relation::AtLeast, &Row::difference(k, names, 0))?;
+        let back = names.exchanged();
         let other = if whole {
-            draft.row(Relation::Above, &Row::difference(1, m, n, 1))?
+            draft.row(Relation::Above, &Row::difference(1, back, 1))?
         } else {
-            draft.row(Relation::AtLeast, &Row::difference(k, m, n, 0))?
+            draft.row(Relation::AtLeast, &Row::difference(k, back, 0))?
         };
         Ok(Ordering {
-            n,
-            m,
+            names,
             k,
             apart,
             row,
@@ -150,22 +141,22 @@ impl Ordering {
 
     // Splits on n and m, and refutes each of the three branches.
     pub fn refute(self, draft: &mut Draft) -> Result<(), AllocError> {
-        let (equal, told) = draft.split(self.n, self.m)?;
-        draft.records.put(&[b'O', 1])?;
-        draft.records.add(1, told, self.k)?;
+        let told = draft.split(self.names)?;
+        draft.records.zero()?;
+        draft.records.add(1, told.row, self.k)?;
         draft.records.add(1, self.row, 1)?;
-        draft.records.put(&[b'F', 1])?;
-        draft.records.reflexivity(0, Term::bare(self.n))?;
-        draft.records.put(&[b'T', 0, equal, 0])?;
-        draft.records.put(&[b'N', 0, self.apart])?;
-        draft.records.put(&[b'O', 1])?;
+        draft.records.falsify()?;
+        draft.records.reflexivity(0, Term::bare(self.names.0))?;
+        draft.records.transitivity(told.term, false)?;
+        draft.records.clash(self.apart)?;
+        draft.records.zero()?;
         if self.whole {
-            draft.records.add(1, told, 1)?;
-            draft.records.put(&[b'I', 1])?;
+            draft.records.add(1, told.row, 1)?;
+            draft.records.strengthen()?;
         } else {
-            draft.records.add(1, told, self.k)?;
+            draft.records.add(1, told.row, self.k)?;
         }
         draft.records.add(1, self.other, 1)?;
-        draft.records.put(&[b'F', 1])
+        draft.records.falsify()
     }
 }

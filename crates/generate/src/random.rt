@@ -1,5 +1,7 @@
 // Pseudo-random choices.
-use crate::record::Term;
+ghost use Rattle.std.specs.Prelude.{◌<◌};
+
+use crate::record::{Names, Relation, Term};
 
 /// SplitMix64: a counter that rises by an odd constant, and a mixing of its bits.
 #[derive(Clone, Copy)]
@@ -27,16 +29,16 @@ impl Random {
         (self.next() & 0xff) as u8
     }
 
+    // `byte`, `count` and `index` are not one function: it would convert the bound and the answer at each width.
     // A byte below a bound, or 0.
     pub fn byte(&mut self, bound: u8) -> u8 {
-        let x = self.any_byte();
-        if bound == 0 { 0 } else { x % bound }
+        self.any_byte().checked_rem(bound).unwrap_or(0)
     }
 
     // A count below a bound, or 0.
     pub fn count(&mut self, bound: u16) -> u16 {
         let x = (self.next() & 0xffff) as u16;
-        if bound == 0 { 0 } else { x % bound }
+        x.checked_rem(bound).unwrap_or(0)
     }
 
     // A number below a bound, or 0.
@@ -51,9 +53,11 @@ impl Random {
     }
 
     // An index below a bound, or 0.
-    pub fn index(&mut self, bound: usize) -> usize {
+    pub fn index(&mut self, bound: usize) -> usize
+        ensures { 0 < bound → result < bound }
+    {
         let x = (self.next() & 0xffff_ffff) as usize;
-        if bound == 0 { 0 } else { x % bound }
+        x.checked_rem(bound).unwrap_or(0)
     }
 
     // One of two.
@@ -66,16 +70,11 @@ impl Random {
         self.byte(times) == 0
     }
 
-    // One of the bytes, or 0.
-    pub fn pick(&mut self, from: &[u8]) -> u8 {
-        let at = self.index(from.len());
-        from.get(at).copied().unwrap_or(0)
-    }
-
-    // One of the numbers, or 0.
-    pub fn pick_number(&mut self, from: &[i32]) -> i32 {
-        let at = self.index(from.len());
-        from.get(at).copied().unwrap_or(0)
+    // One of the values.
+    pub fn pick<T: Copy, const N: usize>(&mut self, from: &[T; N]) -> T
+        requires { 0 < N }
+    {
+        from[self.index(N)]
     }
 
     // A name.
@@ -83,21 +82,36 @@ impl Random {
         self.byte(32)
     }
 
-    // A name other than this one.
-    pub fn other_name(&mut self, name: u8) -> u8 {
+    // Two names, which may be the same.
+    pub fn any_names(&mut self) -> Names {
+        let first = self.name();
+        Names(first, self.name())
+    }
+
+    // Two different names.
+    pub fn names(&mut self) -> Names {
+        let first = self.name();
         let step = self.byte(31);
-        name.wrapping_add(1).wrapping_add(step) % 32
+        Names(first, first.wrapping_add(1).wrapping_add(step) % 32)
     }
 
     // A term in range.
     pub fn term(&mut self) -> Term {
         let letter = self.byte(16);
-        let first = self.name();
-        let second = self.name();
+        let Names(first, second) = self.any_names();
         match self.byte(3) {
             0 => Term::bare(first),
             1 => Term::one(letter, first),
             _ => Term::two(letter, first, second),
+        }
+    }
+
+    // A relation.
+    pub fn relation(&mut self) -> Relation {
+        match self.byte(3) {
+            0 => Relation::AtLeast,
+            1 => Relation::Above,
+            _ => Relation::Zero,
         }
     }
 }

@@ -1,8 +1,9 @@
-// Records of claim files, as they are written.
+// Records of claim files, as they are written. The types are the generator's own: it shares no code with
+// what it tests.
 use std::alloc::{AllocError, Global};
 
 /// A term as it is sent, whether its fields are in range or not.
-#[derive(Clone, Copy)]
+#[derive(Clone, Copy, Default)]
 pub struct Term {
     pub tag: u8,
     pub letter: u8,
@@ -10,14 +11,19 @@ pub struct Term {
     pub second: u8,
 }
 
+/// An argument of a symbol.
+#[derive(Clone, Copy)]
+pub enum Position {
+    First = 1,
+    Second = 2,
+}
+
 impl Term {
     // A bare name.
     pub fn bare(name: u8) -> Term {
         Term {
-            tag: 0,
-            letter: 0,
             first: name,
-            second: 0,
+            ..Term::default()
         }
     }
 
@@ -26,8 +32,7 @@ impl Term {
         Term {
             tag: 1,
             letter,
-            first: name,
-            second: 0,
+            ..Term::bare(name)
         }
     }
 
@@ -42,8 +47,19 @@ impl Term {
     }
 }
 
-/// A name and its coefficient.
+/// Two names.
 #[derive(Clone, Copy)]
+pub struct Names(pub u8, pub u8);
+
+impl Names {
+    // The second name first.
+    pub fn exchanged(self) -> Names {
+        Names(self.1, self.0)
+    }
+}
+
+/// A name and its coefficient.
+#[derive(Clone, Copy, Default)]
 pub struct Pair {
     pub name: u8,
     pub coefficient: i32,
@@ -57,45 +73,30 @@ pub struct Row {
 }
 
 impl Row {
-    // A constant and two names, with a name in between and one behind that have the coefficient 0.
-    pub fn of(constant: i32, first: Pair, second: Pair) -> Row {
-        let none = Pair {
-            name: 0,
-            coefficient: 0,
+    // k times the first name less j times the second, and a constant. Pairs with the coefficient 0 follow both.
+    fn of(k: i32, j: i32, names: Names, constant: i32) -> Row {
+        let plus = Pair {
+            name: names.0,
+            coefficient: k,
+        };
+        let minus = Pair {
+            name: names.1,
+            coefficient: j.saturating_neg(),
         };
         Row {
             constant,
-            pairs: [first, none, second, none],
+            pairs: [plus, Pair::default(), minus, Pair::default()],
         }
     }
 
     // k times the first name less k times the second, and a constant.
-    pub fn difference(k: i32, first: u8, second: u8, constant: i32) -> Row {
-        let plus = Pair {
-            name: first,
-            coefficient: k,
-        };
-        let minus = Pair {
-            name: second,
-            coefficient: k.saturating_neg(),
-        };
-        Row::of(constant, plus, minus)
+    pub fn difference(k: i32, names: Names, constant: i32) -> Row {
+        Row::of(k, k, names, constant)
     }
 
     // k times a name, and a constant.
     pub fn multiple(k: i32, name: u8, constant: i32) -> Row {
-        let pair = Pair {
-            name,
-            coefficient: k,
-        };
-        Row::of(
-            constant,
-            pair,
-            Pair {
-                name,
-                coefficient: 0,
-            },
-        )
+        Row::of(k, 0, Names(name, name), constant)
     }
 }
 
@@ -107,10 +108,10 @@ pub enum Relation {
     Zero,
 }
 
-impl Relation {
-    // The kind of its records.
-    pub fn kind(self) -> u8 {
-        match self {
+// The kind of its records.
+impl From<Relation> for u8 {
+    fn from(relation: Relation) -> u8 {
+        match relation {
             Relation::AtLeast => b'G',
             Relation::Above => b'S',
             Relation::Zero => b'Z',
@@ -118,98 +119,117 @@ impl Relation {
     }
 }
 
-/// Records one after the other, and where each begins.
+/// Records, in the order of their file.
 #[derive(Drop)]
 pub struct Records {
-    bytes: Vec<u8>,
-    starts: Vec<usize>,
+    pub list: Vec<Vec<u8>>,
 }
 
 impl Records {
     // No records.
     pub fn new(heap: Global) -> Records {
         Records {
-            bytes: Vec::new(heap),
-            starts: Vec::new(heap),
+            list: Vec::new(heap),
         }
     }
 
-    // The bytes.
-    pub fn into_bytes(self) -> Vec<u8> {
-        self.bytes
-    }
-
-    // How many records there are.
-    pub fn count(&self) -> usize {
-        self.starts.len()
-    }
-
-    // How many bytes there are.
-    pub fn size(&self) -> usize {
-        self.bytes.len()
-    }
-
-    // The bytes of a record, none where there is no such record.
-    pub fn record(&self, at: usize) -> &[u8] {
-        let size = self.bytes.len();
-        let from = self.starts.get(at).copied().unwrap_or(size);
-        let to = self
-            .starts
-            .get(at.saturating_add(1))
-            .copied()
-            .unwrap_or(size);
-        self.bytes.as_slice().get(from..to).unwrap_or(&[])
+    // Their bytes.
+    pub fn into_bytes(self) -> Result<Vec<u8>, AllocError> {
+        let heap = *self.list.allocator();
+        self.list.as_slice().concat(heap)
     }
 
     // A record of these bytes.
     pub fn put(&mut self, record: &[u8]) -> Result<(), AllocError> {
-        self.starts.push(self.bytes.len())?;
-        self.bytes.extend_from_slice(record)
-    }
-
-    // More bytes of the last record.
-    pub fn more(&mut self, bytes: &[u8]) -> Result<(), AllocError> {
-        self.bytes.extend_from_slice(bytes)
-    }
-
-    // A term of the last record.
-    fn term(&mut self, term: Term) -> Result<(), AllocError> {
-        self.more(&[term.tag, term.letter, term.first, term.second])
+        let heap = *self.list.allocator();
+        self.list.push(Vec::from_slice(heap, record)?)?;
+        Ok(())
     }
 
     // A literal over two terms, of the kind E or D.
-    pub fn terms(&mut self, kind: u8, left: Term, right: Term) -> Result<(), AllocError> {
-        self.put(&[kind])?;
-        self.term(left)?;
-        self.term(right)
+    pub fn terms(&mut self, kind: u8, t: Term, u: Term) -> Result<(), AllocError> {
+        self.put(&[
+            kind, t.tag, t.letter, t.first, t.second, u.tag, u.letter, u.first, u.second,
+        ])
     }
 
     // A literal over a row.
     pub fn row(&mut self, relation: Relation, row: &Row) -> Result<(), AllocError> {
-        self.put(&[relation.kind()])?;
-        self.more(&row.constant.to_le_bytes())?;
+        let heap = *self.list.allocator();
+        let mut record = vec![in heap; u8::from(relation)]?;
+        record.extend_from_slice(&row.constant.to_le_bytes())?;
         for pair in row.pairs {
-            self.more(&[pair.name])?;
-            self.more(&pair.coefficient.to_le_bytes())?;
+            record.push(pair.name)?;
+            record.extend_from_slice(&pair.coefficient.to_le_bytes())?;
         }
+        self.list.push(record)?;
         Ok(())
     }
 
     // A reading.
     pub fn reading(&mut self, name: u8, count: u16) -> Result<(), AllocError> {
-        self.put(&[b'K', name])?;
-        self.more(&count.to_le_bytes())
+        let [low, high] = count.to_le_bytes();
+        self.put(&[b'K', name, low, high])
     }
 
     // Reflexivity.
-    pub fn reflexivity(&mut self, address: u8, term: Term) -> Result<(), AllocError> {
-        self.put(&[b'R', address])?;
-        self.term(term)
+    pub fn reflexivity(&mut self, address: u8, t: Term) -> Result<(), AllocError> {
+        self.put(&[b'R', address, t.tag, t.letter, t.first, t.second])
+    }
+
+    // Transitivity.
+    pub fn transitivity(&mut self, fact: u8, turned: bool) -> Result<(), AllocError> {
+        self.put(&[b'T', 0, fact, u8::from(turned)])
+    }
+
+    // Congruence at an argument's position.
+    pub fn congruence(
+        &mut self,
+        fact: u8,
+        position: Position,
+        turned: bool,
+    ) -> Result<(), AllocError> {
+        self.put(&[b'C', 0, fact, position as u8, u8::from(turned)])
+    }
+
+    // A contradiction with a fact t ≠ u.
+    pub fn clash(&mut self, fact: u8) -> Result<(), AllocError> {
+        self.put(&[b'N', 0, fact])
+    }
+
+    // Handing an equality on.
+    pub fn propagate(&mut self) -> Result<(), AllocError> {
+        self.put(&[b'X', 0])
+    }
+
+    // The row 0 ≥ 0.
+    pub fn zero(&mut self) -> Result<(), AllocError> {
+        self.put(&[b'O', 1])
     }
 
     // Adding a multiple of a fact.
     pub fn add(&mut self, address: u8, fact: u8, factor: i32) -> Result<(), AllocError> {
-        self.put(&[b'M', address, fact])?;
-        self.more(&factor.to_le_bytes())
+        let [a, b, c, d] = factor.to_le_bytes();
+        self.put(&[b'M', address, fact, a, b, c, d])
+    }
+
+    // Handing on that two names are equal, by a fact.
+    pub fn antisymmetry(&mut self, fact: u8, names: Names) -> Result<(), AllocError> {
+        self.put(&[b'Q', 1, fact, names.0, names.1])
+    }
+
+    // A contradiction of the current row.
+    pub fn falsify(&mut self) -> Result<(), AllocError> {
+        self.put(&[b'F', 1])
+    }
+
+    // From row > 0 to row − 1 ≥ 0.
+    pub fn strengthen(&mut self) -> Result<(), AllocError> {
+        self.put(&[b'I', 1])
+    }
+
+    // Dividing the current row, and rounding down.
+    pub fn cut(&mut self) -> Result<(), AllocError> {
+        self.put(&[b'U', 1])
     }
 }

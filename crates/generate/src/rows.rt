@@ -1,7 +1,8 @@
 // Goals that rows refute.
-use crate::draft::Draft;
+use crate::draft::{Address, Draft};
 use crate::record::{Pair, Relation, Row};
 use std::alloc::AllocError;
+use std::array;
 
 /// Three rows, of which a combination has no names and a false constant.
 #[derive(Clone, Copy)]
@@ -9,15 +10,6 @@ pub struct Combination {
     row: u8,
     first: i32,
     second: i32,
-}
-
-// A relation.
-fn any_relation(draft: &mut Draft) -> Relation {
-    match draft.random.byte(3) {
-        0 => Relation::AtLeast,
-        1 => Relation::Above,
-        _ => Relation::Zero,
-    }
 }
 
 // A factor that may stand before a relation: positive, but for equations.
@@ -33,28 +25,12 @@ fn factor(draft: &mut Draft, relation: Relation) -> i32 {
 
 // A row of these names with coefficients below a thousand.
 fn random_row(draft: &mut Draft, names: [u8; 4]) -> Row {
-    let [a, b, c, d] = names;
     let constant = draft.random.signed(1000);
-    let a = Pair {
-        name: a,
+    let pairs = names.map(|name| Pair {
+        name,
         coefficient: draft.random.signed(1000),
-    };
-    let b = Pair {
-        name: b,
-        coefficient: draft.random.signed(1000),
-    };
-    let c = Pair {
-        name: c,
-        coefficient: draft.random.signed(1000),
-    };
-    let d = Pair {
-        name: d,
-        coefficient: draft.random.signed(1000),
-    };
-    Row {
-        constant,
-        pairs: [a, b, c, d],
-    }
+    });
+    Row { constant, pairs }
 }
 
 // −(c·x + d·y)
@@ -66,31 +42,22 @@ fn against(c: i32, x: i32, d: i32, y: i32) -> i32 {
 
 // The row that c times one and d times another are to be refuted by, less a gap.
 fn opposite(c: i32, x: &Row, d: i32, y: &Row, gap: i32) -> Row {
-    let mut row = *x;
-    row.constant = against(c, x.constant, d, y.constant).saturating_sub(gap);
-    for at in 0..4 {
-        let coefficient = against(c, x.pairs[at].coefficient, d, y.pairs[at].coefficient);
-        let name = x.pairs[at].name;
-        row.pairs[at] = Pair { name, coefficient };
+    Row {
+        constant: against(c, x.constant, d, y.constant).saturating_sub(gap),
+        pairs: array::from_fn(|at| Pair {
+            name: x.pairs[at].name,
+            coefficient: against(c, x.pairs[at].coefficient, d, y.pairs[at].coefficient),
+        }),
     }
-    row
 }
 
 impl Combination {
     // States the rows, of which the third makes the combination 0 > 0 or −k ≥ 0, and `miss` more.
     pub fn state(draft: &mut Draft, miss: i32) -> Result<Combination, AllocError> {
-        let names = [
-            draft.random.name(),
-            draft.random.name(),
-            draft.random.name(),
-            draft.random.name(),
-        ];
-        let x_relation = any_relation(draft);
-        let y_relation = any_relation(draft);
-        let z_relation = any_relation(draft);
-        let strict = x_relation == Relation::Above
-            || y_relation == Relation::Above
-            || z_relation == Relation::Above;
+        let names = array::from_fn(|_| draft.random.name());
+        let relations: [Relation; 3] = array::from_fn(|_| draft.random.relation());
+        let [x_relation, y_relation, z_relation] = relations;
+        let strict = relations.contains(&Relation::Above);
         let first = factor(draft, x_relation);
         let second = factor(draft, y_relation);
         let x = random_row(draft, names);
@@ -112,16 +79,16 @@ impl Combination {
     pub fn refute(self, draft: &mut Draft) -> Result<(), AllocError> {
         let second = self.row.saturating_add(1);
         let third = self.row.saturating_add(2);
-        draft.records.put(&[b'O', 1])?;
+        draft.records.zero()?;
         draft.records.add(1, self.row, self.first)?;
         if draft.random.once_in(3) {
-            let part = draft.push_rows()?;
-            draft.records.put(&[b'O', 1])?;
+            let part = draft.push(Address::Rows)?;
+            draft.records.zero()?;
             draft.records.add(1, part, 1)?;
         }
         draft.records.add(1, second, self.second)?;
         draft.records.add(1, third, 1)?;
-        draft.records.put(&[b'F', 1])
+        draft.records.falsify()
     }
 }
 
@@ -137,22 +104,22 @@ pub struct Rounding {
 impl Rounding {
     // States the two rows, the first with > at times.
     pub fn state(draft: &mut Draft) -> Result<Rounding, AllocError> {
-        let n = draft.random.name();
-        let m = draft.random.other_name(n);
+        let names = draft.random.names();
         let r = draft.random.small(1000).saturating_add(1);
         let s = draft.random.small(1000).saturating_add(r);
         let divisor = draft.random.small(1000).saturating_add(s).saturating_add(1);
         let strict = draft.random.coin();
+        let below = r.saturating_neg();
         let low = if strict {
-            let row = Row::difference(divisor, n, m, r.saturating_neg().saturating_add(1));
+            let row = Row::difference(divisor, names, below.saturating_add(1));
             draft.row(Relation::Above, &row)?
         } else {
-            draft.row(
-                Relation::AtLeast,
-                &Row::difference(divisor, n, m, r.saturating_neg()),
-            )?
+            draft.row(Relation::AtLeast, &Row::difference(divisor, names, below))?
         };
-        let high = draft.row(Relation::AtLeast, &Row::difference(divisor, m, n, s))?;
+        let high = draft.row(
+            Relation::AtLeast,
+            &Row::difference(divisor, names.exchanged(), s),
+        )?;
         Ok(Rounding {
             divisor,
             strict,
@@ -163,22 +130,22 @@ impl Rounding {
 
     // Cuts the first row to n − m − 1 ≥ 0 and pushes it, and adds it to the other, cut or not.
     pub fn refute(self, draft: &mut Draft) -> Result<(), AllocError> {
-        draft.records.put(&[b'O', 1])?;
+        draft.records.zero()?;
         draft.records.add(1, self.low, 1)?;
         if self.strict {
-            draft.records.put(&[b'I', 1])?;
+            draft.records.strengthen()?;
         }
-        draft.records.put(&[b'U', 1])?;
-        let cut = draft.push_rows()?;
-        draft.records.put(&[b'O', 1])?;
+        draft.records.cut()?;
+        let cut = draft.push(Address::Rows)?;
+        draft.records.zero()?;
         draft.records.add(1, self.high, 1)?;
         if draft.random.coin() {
-            draft.records.put(&[b'U', 1])?;
+            draft.records.cut()?;
             draft.records.add(1, cut, 1)?;
         } else {
             draft.records.add(1, cut, self.divisor)?;
         }
-        draft.records.put(&[b'F', 1])
+        draft.records.falsify()
     }
 }
 
@@ -190,24 +157,16 @@ pub struct Dividing {
     factor: i32,
 }
 
-// A quotient by a positive number, rounded down.
-fn rounded_down(number: i32, divisor: i32) -> i32 {
-    if divisor > 0 {
-        number.div_euclid(divisor)
-    } else {
-        number
-    }
-}
-
 // A row of four different names with these coefficients, each times a number.
 fn spread(base: u8, constant: i32, times: i32, coefficients: [i32; 4]) -> Row {
-    let mut row = Row::multiple(0, base, constant);
-    for at in 0..4 {
-        let name = base.wrapping_add(at as u8) % 32;
-        let coefficient = times.saturating_mul(coefficients[at]);
-        row.pairs[at] = Pair { name, coefficient };
+    Row {
+        constant,
+        pairs: array::from_fn(|at| Pair {
+            // at most 3
+            name: base.wrapping_add(at as u8) % 32,
+            coefficient: times.saturating_mul(coefficients[at]),
+        }),
     }
-    row
 }
 
 impl Dividing {
@@ -223,7 +182,7 @@ impl Dividing {
             draft.random.signed(50),
             draft.random.signed(50),
         ];
-        let quotient = rounded_down(constant, divisor);
+        let quotient = constant.checked_div_euclid(divisor).unwrap_or(0);
         let against = quotient
             .saturating_neg()
             .saturating_sub(1)
@@ -239,11 +198,11 @@ impl Dividing {
 
     // Cuts a multiple of the first row, and adds the other.
     pub fn refute(self, draft: &mut Draft) -> Result<(), AllocError> {
-        draft.records.put(&[b'O', 1])?;
+        draft.records.zero()?;
         draft.records.add(1, self.row, self.factor)?;
-        draft.records.put(&[b'U', 1])?;
+        draft.records.cut()?;
         draft.records.add(1, self.other, 1)?;
-        draft.records.put(&[b'F', 1])
+        draft.records.falsify()
     }
 }
 
@@ -268,14 +227,16 @@ fn positive_count(draft: &mut Draft) -> u16 {
 impl Counts {
     // States two readings and a row.
     pub fn state(draft: &mut Draft) -> Result<Counts, AllocError> {
-        let n = draft.random.name();
-        let m = draft.random.name();
+        let names = draft.random.any_names();
         let count = positive_count(draft);
         let below = draft.random.count(count);
         let slack = draft.random.small(count.saturating_sub(below));
-        let low = draft.reading(n, count)?;
-        let high = draft.reading(m, below)?.saturating_add(1);
-        let row = draft.row(Relation::AtLeast, &Row::difference(1, m, n, slack))?;
+        let low = draft.reading(names.0, count)?;
+        let high = draft.reading(names.1, below)?.saturating_add(1);
+        let row = draft.row(
+            Relation::AtLeast,
+            &Row::difference(1, names.exchanged(), slack),
+        )?;
         let factor = draft.random.small(10_000).saturating_add(1);
         Ok(Counts {
             low,
@@ -287,10 +248,10 @@ impl Counts {
 
     // Adds the bounds and the row up.
     pub fn refute(self, draft: &mut Draft) -> Result<(), AllocError> {
-        draft.records.put(&[b'O', 1])?;
+        draft.records.zero()?;
         draft.records.add(1, self.high, self.factor)?;
         draft.records.add(1, self.low, self.factor)?;
         draft.records.add(1, self.row, self.factor)?;
-        draft.records.put(&[b'F', 1])
+        draft.records.falsify()
     }
 }

@@ -1,21 +1,21 @@
 // Goals that equality refutes.
 use crate::draft::Draft;
-use crate::record::Term;
+use crate::record::{Names, Position, Term};
 use std::alloc::AllocError;
+use std::array;
+
+/// The most links of a chain.
+const MOST_LINKS: usize = 6;
 
 /// t0 = t1, t1 = t2, .. and t0 ≠ tk, with some of the equalities written the other way round.
 #[derive(Clone, Copy)]
 pub struct Chain {
     start: Term,
     links: u8,
-    turned: u8,
+    // as many count as there are links; no `Vec`, since goals are copied
+    turned: [bool; MOST_LINKS],
     fact: u8,
     apart: u8,
-}
-
-// A bit of a byte.
-fn bit(mask: u8, at: u8) -> bool {
-    if at < 8 { (mask >> at) & 1 == 1 } else { false }
 }
 
 impl Chain {
@@ -23,12 +23,13 @@ impl Chain {
     pub fn state(draft: &mut Draft) -> Result<Chain, AllocError> {
         let start = draft.random.term();
         let links = draft.random.byte(6).saturating_add(1);
-        let turned = draft.random.any_byte();
+        let bits = draft.random.any_byte();
+        let turned = array::from_fn(|link| (bits >> link) & 1 == 1);
         let fact = draft.facts.terms;
         let mut last = start;
-        for link in 0..links {
+        for turned in turned.iter().take(usize::from(links)) {
             let next = draft.random.term();
-            draft.equal_turned(bit(turned, link), last, next)?;
+            draft.equal_turned(*turned, last, next)?;
             last = next;
         }
         let apart = draft.different(start, last)?;
@@ -44,12 +45,10 @@ impl Chain {
     // t0 = t0, t0 = t1, .. t0 = tk, against t0 ≠ tk.
     pub fn refute(self, draft: &mut Draft) -> Result<(), AllocError> {
         draft.records.reflexivity(0, self.start)?;
-        for link in 0..self.links {
-            let fact = self.fact.saturating_add(link);
-            let turned = u8::from(bit(self.turned, link));
-            draft.records.put(&[b'T', 0, fact, turned])?;
+        for (fact, turned) in (self.fact..).zip(self.turned).take(usize::from(self.links)) {
+            draft.records.transitivity(fact, turned)?;
         }
-        draft.records.put(&[b'N', 0, self.apart])
+        draft.records.clash(self.apart)
     }
 }
 
@@ -58,9 +57,9 @@ impl Chain {
 pub struct Congruent {
     before: Term,
     first: u8,
-    first_turned: u8,
+    first_turned: bool,
     second: u8,
-    second_turned: u8,
+    second_turned: bool,
     apart: u8,
 }
 
@@ -68,50 +67,50 @@ impl Congruent {
     // States it for a symbol with one place or with two.
     pub fn state(draft: &mut Draft) -> Result<Congruent, AllocError> {
         let letter = draft.random.byte(16);
-        let a = draft.random.name();
-        let b = draft.random.name();
-        let c = draft.random.name();
-        let d = draft.random.name();
+        let Names(a, b) = draft.random.any_names();
+        let Names(c, d) = draft.random.any_names();
         let two = draft.random.coin();
         let first_turned = draft.random.coin();
         let second_turned = draft.random.coin();
-        let before = if two {
-            Term::two(letter, a, c)
-        } else {
-            Term::one(letter, a)
+        let applied = |first, second| {
+            if two {
+                Term::two(letter, first, second)
+            } else {
+                Term::one(letter, first)
+            }
         };
-        let after = if two {
-            Term::two(letter, b, d)
-        } else {
-            Term::one(letter, b)
-        };
+        let before = applied(a, c);
         let second = draft.equal_turned(second_turned, Term::bare(c), Term::bare(d))?;
-        let apart = draft.different(before, after)?;
+        let apart = draft.different(before, applied(b, d))?;
         let first = draft.equal_turned(first_turned, Term::bare(a), Term::bare(b))?;
         Ok(Congruent {
             before,
             first,
-            first_turned: u8::from(first_turned),
+            first_turned,
             second,
-            second_turned: u8::from(second_turned),
+            second_turned,
             apart,
         })
     }
 
     // Exchanges the first argument, and the second of a symbol with two places, in either order.
     pub fn refute(self, draft: &mut Draft) -> Result<(), AllocError> {
-        let at_first = [b'C', 0, self.first, 1, self.first_turned];
-        let at_second = [b'C', 0, self.second, 2, self.second_turned];
         draft.records.reflexivity(0, self.before)?;
         let two = self.before.tag == 2;
         let second_before = two && draft.random.coin();
         if second_before {
-            draft.records.put(&at_second)?;
+            draft
+                .records
+                .congruence(self.second, Position::Second, self.second_turned)?;
         }
-        draft.records.put(&at_first)?;
+        draft
+            .records
+            .congruence(self.first, Position::First, self.first_turned)?;
         if two && !second_before {
-            draft.records.put(&at_second)?;
+            draft
+                .records
+                .congruence(self.second, Position::Second, self.second_turned)?;
         }
-        draft.records.put(&[b'N', 0, self.apart])
+        draft.records.clash(self.apart)
     }
 }

@@ -1,64 +1,72 @@
 // Why a call stops.
+use crate::refusal::Refusal;
 use std::alloc::{AllocError, AllocFailed};
 
-/// A refusal's number, the address that the step was sent to, the theory that refused and the detail.
-#[derive(Clone, Copy)]
+/// The theories, each with its number.
+#[derive(Clone, Copy, PartialEq, Eq, Debug)]
+pub enum Theory {
+    Equality = 1,
+    Fractions = 2,
+    Whole = 3,
+}
+
+/// A refusal, the address that the step was sent to, which may be any byte, the theory that refused and
+/// the detail.
+#[derive(Clone, Copy, PartialEq, Eq, Debug)]
 pub struct Cause {
-    pub number: usize,
-    pub side: usize,
-    pub theory: usize,
+    pub refusal: Refusal,
+    pub side: u8,
+    pub theory: Option<Theory>,
     pub detail: usize,
 }
 
-impl Cause {
-    // A refusal with nothing but its number.
-    pub fn of(number: usize) -> Cause {
+impl From<Refusal> for Cause {
+    fn from(refusal: Refusal) -> Cause {
         Cause {
-            number,
+            refusal,
             side: 0,
-            theory: 0,
+            theory: None,
             detail: 0,
         }
     }
+}
 
+impl Cause {
     // The field at this place of its record is out of its range.
-    pub fn field(place: usize) -> Cause {
+    pub(crate) fn field(place: usize) -> Cause {
         Cause {
-            number: 6,
-            side: 0,
-            theory: 0,
             detail: place,
+            ..Cause::from(Refusal::FieldOutOfRange)
         }
     }
 
     // There is no such fact among so many.
-    pub fn no_fact(count: usize) -> Cause {
+    pub(crate) fn no_fact(count: usize) -> Cause {
         Cause {
-            number: 13,
-            side: 0,
-            theory: 0,
             detail: count,
+            ..Cause::from(Refusal::NoSuchFact)
         }
     }
 
     // The same refusal, by this theory.
-    pub fn by(self, theory: usize) -> Cause {
+    pub(crate) fn by(self, theory: Theory) -> Cause {
         Cause {
-            number: self.number,
-            side: self.side,
-            theory,
-            detail: self.detail,
+            theory: Some(theory),
+            ..self
         }
     }
 
     // The same refusal, of a step that was sent to this address.
-    pub fn sent_to(self, address: u8) -> Cause {
+    pub(crate) fn sent_to(self, address: u8) -> Cause {
         Cause {
-            number: self.number,
-            side: usize::from(address),
-            theory: self.theory,
-            detail: self.detail,
+            side: address,
+            ..self
         }
+    }
+
+    // The number of the theory that refused, 0 where none did.
+    pub(crate) fn theory_number(&self) -> usize {
+        self.theory.map_or(0, |theory| theory as usize)
     }
 }
 
@@ -69,9 +77,25 @@ pub enum Stop {
     Memory,
 }
 
+impl Stop {
+    // The same, of a step that was sent to this address.
+    pub(crate) fn sent_to(self, address: u8) -> Stop {
+        match self {
+            Stop::Refused(cause) => Stop::Refused(cause.sent_to(address)),
+            Stop::Memory => Stop::Memory,
+        }
+    }
+}
+
 impl From<Cause> for Stop {
     fn from(cause: Cause) -> Stop {
         Stop::Refused(cause)
+    }
+}
+
+impl From<Refusal> for Stop {
+    fn from(refusal: Refusal) -> Stop {
+        Stop::Refused(Cause::from(refusal))
     }
 }
 

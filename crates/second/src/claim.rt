@@ -1,13 +1,16 @@
 // A claim: literals, then steps, until every branch is finished.
-use crate::cause::{Cause, Stop};
-use crate::fact::{Fact, Order};
+use crate::cause::{Cause, Stop, Theory};
+use crate::fact::{Fact, Names};
+use crate::fields::Fields;
 use crate::kind::{Kind, RuleKind};
+use crate::refusal::Refusal;
 use crate::sent::{Reading, Rule};
-use crate::side::Outcome;
+use crate::side::Effect;
 use crate::state::State;
-use crate::verdict::Verdict;
-use crate::{Arithmetic, equality, fields, rows, sent};
-use std::alloc::{AllocError, Global};
+use crate::verdict::{Taken, Verdict};
+use crate::{Arithmetic, equality, rows, sent};
+use std::alloc::Global;
+use std::cmp::Ordering;
 
 /// The most literals and steps, and the most open splits.
 const MOST_CALLS: usize = 50_000;
@@ -30,9 +33,7 @@ pub struct Claim {
     stage: Stage,
     state: State,
     waiting: Vec<State>,
-    literals: usize,
-    steps: usize,
-    splits: usize,
+    taken: Taken,
 }
 
 impl Claim {
@@ -44,59 +45,52 @@ impl Claim {
             stage: Stage::Literals,
             state: State::new(heap),
             waiting: Vec::new(heap),
-            literals: 0,
-            steps: 0,
-            splits: 0,
+            taken: Taken::default(),
         }
     }
 
     // Takes a whole record.
-    pub fn take(&mut self, kind: Kind, record: &[u8]) -> Result<(), Stop> {
+    pub fn take(&mut self, kind: Kind, fields: &mut Fields) -> Result<(), Stop> {
         match (kind, self.stage) {
-            (Kind::Literal(kind), Stage::Literals) => self.literal(sent::read_literal(
-                kind, record,
-            )?),
-            (Kind::Reading, Stage::Literals) => self.reading(sent::read_reading(record)?),
+            (Kind::Literal(kind), Stage::Literals) => {
+                self.literal(sent::read_literal(kind, fields)?)
+            }
+            (Kind::Reading, Stage::Literals) => self.reading(sent::read_reading(fields)?),
             (Kind::Begin, Stage::Literals) => {
                 self.stage = Stage::Steps;
                 Ok(())
             }
-            (Kind::Infer(kind), Stage::Steps) => self.infer(kind, record),
-            (Kind::Split, Stage::Steps) => self.split(record),
-            (Kind::Infer(_), Stage::Nothing) => {
-                Err(Stop::Refused(Cause::of(5).sent_to(fields::byte(record, 1))))
+            (Kind::Infer(kind), Stage::Steps | Stage::Nothing) => {
+                let address = fields.byte();
+                self.infer(kind, address, fields)
+                    .map_err(|stop| stop.sent_to(address))
             }
-            (Kind::Split, Stage::Nothing) => Err(Stop::Refused(Cause::of(5))),
-            _ => Err(Stop::Refused(Cause::of(4))),
+            (Kind::Split, Stage::Steps | Stage::Nothing) => self.split(fields),
+            _ => Err(Stop::from(Refusal::WrongStage)),
         }
     }
 
-    // How many literals and steps were taken.
-    fn place(&self) -> usize {
-        self.literals.saturating_add(self.steps)
+    // Refused once every branch is finished.
+    fn open(&self) -> Result<(), Refusal> {
+        match self.stage {
+            Stage::Nothing => Err(Refusal::AlreadyClosed),
+            _ => Ok(()),
+        }
     }
 
-    // Whether one more literal or step may be taken.
-    fn one_more(&self) -> Result<(), Cause> {
-        if self.place() < MOST_CALLS {
-            Ok(())
-        } else {
-            Err(Cause::of(7))
-        }
+    // Refused unless one more literal or step may be taken.
+    fn one_more(&self) -> Result<(), Refusal> {
+        Refusal::TooManyCalls.unless(self.taken.calls() < MOST_CALLS)
     }
 
     // Adds a literal's fact at the address that keeps it.
     fn literal(&mut self, fact: Fact) -> Result<(), Stop> {
         self.one_more()?;
         match fact {
-            Fact::OfTerms(_) if self.state.terms.is_full() => return Err(Stop::Refused(Cause::of(
-                18,
-            ))),
-            Fact::OfRow(_) if self.state.rows.is_full() => return Err(Stop::Refused(Cause::of(18))),
-            Fact::OfTerms(fact) => self.state.terms.keep(fact)?,
-            Fact::OfRow(fact) => self.state.rows.keep(fact)?,
+            Fact::OfTerms(fact) => self.state.terms.state(fact)?,
+            Fact::OfRow(fact) => self.state.rows.state(fact)?,
         }
-        self.literals = self.literals.saturating_add(1);
+        self.taken.literals = self.taken.literals.saturating_add(1);
         Ok(())
     }
 
@@ -109,63 +103,44 @@ impl Claim {
         }
     }
 
-    // A step at an address, to which a refusal's side is set.
-    fn infer(&mut self, kind: RuleKind, record: &[u8]) -> Result<(), Stop> {
-        let address = fields::byte(record, 1);
-        let answer = match sent::read_rule(kind, record) {
-            Ok(rule) => self.infer_at(address, rule),
-            Err(cause) => Err(Stop::Refused(cause)),
-        };
-        match answer {
-            Ok(()) => {
-                self.steps = self.steps.saturating_add(1);
-                Ok(())
-            }
-            Err(Stop::Refused(cause)) => Err(Stop::Refused(cause.sent_to(address))),
-            Err(Stop::Memory) => Err(Stop::Memory),
+    // A step at an address.
+    fn infer(&mut self, kind: RuleKind, address: u8, fields: &mut Fields) -> Result<(), Stop> {
+        self.open()?;
+        let rule = sent::read_rule(kind, fields)?;
+        self.one_more()?;
+        match self.apply(address, rule)? {
+            Some(Effect::HandOn(names)) => self.hand_on(names)?,
+            Some(Effect::Contradiction) => self.finish_branch(),
+            None => (),
         }
+        self.taken.steps = self.taken.steps.saturating_add(1);
+        Ok(())
     }
 
     // Applies a rule at an address.
-    fn infer_at(&mut self, address: u8, rule: Rule) -> Result<(), Stop> {
-        self.one_more()?;
+    fn apply(&mut self, address: u8, rule: Rule) -> Result<Option<Effect>, Stop> {
         match address {
-            0 => self.infer_terms(rule),
-            1 => self.infer_rows(rule),
-            _ => Err(Stop::Refused(Cause::of(9))),
+            0 => {
+                let outcome = equality::infer(&self.state.terms, rule).map_err(|cause| cause.by(
+                    Theory::Equality,
+                ))?;
+                Ok(self.state.terms.take(outcome)?)
+            }
+            1 => {
+                let theory = self.arithmetic.theory();
+                let outcome = rows::infer(self.arithmetic, &self.state.rows, rule).map_err(
+                    |cause| cause.by(theory),
+                )?;
+                Ok(self.state.rows.take(outcome)?)
+            }
+            _ => Err(Stop::from(Refusal::NothingAtAddress)),
         }
-    }
-
-    // Applies a rule of equality.
-    fn infer_terms(&mut self, rule: Rule) -> Result<(), Stop> {
-        match equality::infer(&self.state.terms, rule) {
-            Ok(Outcome::Current(fact)) => self.state.terms.set_current(fact),
-            Ok(Outcome::Push(fact)) => self.state.terms.keep(fact)?,
-            Ok(Outcome::HandOn(first, second)) => self.hand_on(first, second)?,
-            Ok(Outcome::Contradiction) => self.finish_branch(),
-            Err(cause) => return Err(Stop::Refused(cause.by(1))),
-        }
-        Ok(())
-    }
-
-    // Applies a rule of rows.
-    fn infer_rows(&mut self, rule: Rule) -> Result<(), Stop> {
-        match rows::infer(self.arithmetic, &self.state.rows, rule) {
-            Ok(Outcome::Current(fact)) => self.state.rows.set_current(fact),
-            Ok(Outcome::Push(fact)) => self.state.rows.keep(fact)?,
-            Ok(Outcome::HandOn(first, second)) => self.hand_on(first, second)?,
-            Ok(Outcome::Contradiction) => self.finish_branch(),
-            Err(cause) => return Err(Stop::Refused(cause.by(self.arithmetic.theory()))),
-        }
-        Ok(())
     }
 
     // Tells both addresses that two names are equal, where both have room.
-    fn hand_on(&mut self, first: u8, second: u8) -> Result<(), Stop> {
-        if !self.state.can_be_told() {
-            return Err(Stop::Refused(Cause::of(18)));
-        }
-        self.state.tell(first, Order::Same, second)?;
+    fn hand_on(&mut self, names: Names) -> Result<(), Stop> {
+        self.state.room()?;
+        self.state.tell(names, Ordering::Equal)?;
         Ok(())
     }
 
@@ -181,65 +156,41 @@ impl Claim {
     }
 
     // Splits on the order of two names: n < m is worked on, n = m and n > m wait.
-    fn split(&mut self, record: &[u8]) -> Result<(), Stop> {
-        let (first, second) = sent::read_split(record)?;
+    fn split(&mut self, fields: &mut Fields) -> Result<(), Stop> {
+        self.open()?;
+        let names = fields.names()?;
         self.one_more()?;
-        if self.state.depth >= MOST_OPEN {
-            return Err(Stop::Refused(Cause::of(8)));
-        }
-        if !self.state.can_be_told() {
-            return Err(Stop::Refused(Cause::of(18)));
-        }
-        self.branch(first, second)?;
-        self.steps = self.steps.saturating_add(1);
-        self.splits = self.splits.saturating_add(1);
-        Ok(())
-    }
-
-    // Makes the three branches of a split, and begins the first.
-    fn branch(&mut self, first: u8, second: u8) -> Result<(), AllocError> {
-        let less = self.state.branch(self.heap, first, Order::Less, second)?;
-        let same = self.state.branch(self.heap, first, Order::Same, second)?;
-        let greater = self.state.branch(self.heap, first, Order::Greater, second)?;
+        Refusal::LevelLimit.unless(self.state.depth < MOST_OPEN)?;
+        self.state.room()?;
+        let less = self.state.branch(self.heap, names, Ordering::Less)?;
+        let same = self.state.branch(self.heap, names, Ordering::Equal)?;
+        let greater = self.state.branch(self.heap, names, Ordering::Greater)?;
         self.waiting.push(greater)?;
         self.waiting.push(same)?;
         self.state = less;
+        self.taken.steps = self.taken.steps.saturating_add(1);
+        self.taken.splits = self.taken.splits.saturating_add(1);
         Ok(())
     }
 
     // The refusal of the record at this offset.
     pub fn refused(&self, offset: usize, cause: Cause) -> Verdict {
         Verdict::Refused {
-            number: cause.number,
+            cause,
             offset,
-            place: self.place(),
+            place: self.taken.calls(),
             depth: self.state.depth,
-            side: cause.side,
-            theory: cause.theory,
-            detail: cause.detail,
         }
     }
 
     // The verdict once every record was taken.
     pub fn verdict(&self) -> Verdict {
-        let literals = self.literals;
-        let steps = self.steps;
-        let splits = self.splits;
         match self.stage {
-            Stage::Nothing => Verdict::Established {
-                literals,
-                steps,
-                splits,
+            Stage::Nothing => Verdict::Established(self.taken),
+            _ => Verdict::Open {
+                taken: self.taken,
+                branches: self.waiting.len().saturating_add(1),
             },
-            _ => {
-                let branches = self.waiting.len().saturating_add(1);
-                Verdict::Open {
-                    literals,
-                    steps,
-                    splits,
-                    branches,
-                }
-            }
         }
     }
 }

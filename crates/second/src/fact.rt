@@ -1,4 +1,5 @@
 // Terms, rows, and the facts over them.
+use std::array;
 
 /// The number of names, n0 to n31.
 pub const NAMES: usize = 32;
@@ -14,7 +15,8 @@ pub enum Term {
     Two(u8, u8, u8),
 }
 
-/// Two terms that are equal, or that are different.
+/// Two terms that are equal, or that are different: `equal` says which, and an enum of the two would
+/// say no more.
 #[derive(Clone, Copy)]
 pub struct Equation {
     pub left: Term,
@@ -32,25 +34,33 @@ impl Equation {
         }
     }
 
-    // left ≠ right
-    pub fn different(left: Term, right: Term) -> Equation {
-        Equation {
-            left,
-            right,
-            equal: false,
-        }
-    }
-
     // The same fact with its sides exchanged, if asked for.
     pub fn turned(self, turned: bool) -> Equation {
         if turned {
             Equation {
                 left: self.right,
                 right: self.left,
-                equal: self.equal,
+                ..self
             }
         } else {
             self
+        }
+    }
+}
+
+/// Two names, a first and a second.
+#[derive(Clone, Copy)]
+pub struct Names {
+    pub first: u8,
+    pub second: u8,
+}
+
+impl Names {
+    // The second name first.
+    pub fn exchanged(self) -> Names {
+        Names {
+            first: self.second,
+            second: self.first,
         }
     }
 }
@@ -80,92 +90,78 @@ impl Row {
     }
 
     // Adds to the coefficient of a name.
-    pub fn add(&mut self, name: u8, coefficient: i128) {
-        let at = usize::from(name);
-        if at < NAMES {
-            let sum = self.coefficients[at].saturating_add(coefficient);
-            self.coefficients[at] = sum;
+    pub fn add(&mut self, name: u8, more: i128) {
+        if let Some(coefficient) = self.coefficients.get_mut(usize::from(name)) {
+            *coefficient = coefficient.saturating_add(more);
         }
     }
 
     // The coefficient of a name.
     pub fn coefficient(&self, name: u8) -> i128 {
-        let at = usize::from(name);
-        if at < NAMES { self.coefficients[at] } else { 0 }
+        self.coefficients
+            .get(usize::from(name))
+            .copied()
+            .unwrap_or(0)
     }
 
     // The first name less the second.
-    pub fn difference(first: u8, second: u8) -> Row {
+    pub fn difference(names: Names) -> Row {
         let mut row = Row::constant(0);
-        row.add(first, 1);
-        row.add(second, -1);
+        row.add(names.first, 1);
+        row.add(names.second, -1);
         row
     }
 
     // This row and c times another.
     pub fn plus(&self, c: i128, other: &Row) -> Row {
-        let mut coefficients = [0; NAMES];
-        for at in 0..NAMES {
-            let more = c.saturating_mul(other.coefficients[at]);
-            coefficients[at] = self.coefficients[at].saturating_add(more);
-        }
-        let more = c.saturating_mul(other.constant);
         Row {
-            constant: self.constant.saturating_add(more),
-            coefficients,
+            constant: plus_times(self.constant, c, other.constant),
+            coefficients: array::from_fn(|at| {
+                plus_times(self.coefficients[at], c, other.coefficients[at])
+            }),
         }
     }
 
     // Whether no number is larger than a row's may be.
     pub fn fits(&self) -> bool {
-        for coefficient in self.coefficients {
-            if coefficient.unsigned_abs() > LARGEST {
-                return false;
-            }
-        }
         self.constant.unsigned_abs() <= LARGEST
+            && self
+                .coefficients
+                .iter()
+                .all(|c| c.unsigned_abs() <= LARGEST)
     }
 
     // Whether a coefficient is not 0.
     pub fn has_names(&self) -> bool {
-        for coefficient in self.coefficients {
-            if coefficient != 0 {
-                return true;
-            }
-        }
-        false
+        self.coefficients.iter().any(|c| *c != 0)
     }
 
     // The greatest common divisor of the coefficients, 0 where there are no names.
     pub fn divisor(&self) -> i128 {
-        let mut divisor = 0;
-        for coefficient in self.coefficients {
-            divisor = gcd(divisor, coefficient.unsigned_abs());
-        }
+        let divisor = self
+            .coefficients
+            .iter()
+            .fold(0, |divisor, c| gcd(divisor, c.unsigned_abs()));
         i128::try_from(divisor).unwrap_or(0)
     }
 
     // Every number divided by a positive number, and rounded down.
     pub fn divided(&self, divisor: i128) -> Row {
-        let mut coefficients = [0; NAMES];
-        for at in 0..NAMES {
-            coefficients[at] = rounded_down(self.coefficients[at], divisor);
-        }
         Row {
             constant: rounded_down(self.constant, divisor),
-            coefficients,
+            coefficients: self.coefficients.map(|c| rounded_down(c, divisor)),
         }
     }
 }
 
+// A number and c times another.
+fn plus_times(number: i128, c: i128, other: i128) -> i128 {
+    number.saturating_add(c.saturating_mul(other))
+}
+
 // The greatest common divisor of two numbers.
-fn gcd(mut a: u128, mut b: u128) -> u128 {
-    while b != 0 {
-        let rest = a % b;
-        a = b;
-        b = rest;
-    }
-    a
+fn gcd(a: u128, b: u128) -> u128 {
+    if b == 0 { a } else { gcd(b, a % b) }
 }
 
 // The largest whole number not above a quotient by a positive number.
@@ -200,12 +196,4 @@ impl RowFact {
 pub enum Fact {
     OfTerms(Equation),
     OfRow(RowFact),
-}
-
-/// What is told of two names.
-#[derive(Clone, Copy)]
-pub enum Order {
-    Less,
-    Same,
-    Greater,
 }

@@ -1,5 +1,5 @@
 // The kinds of records.
-ghost use Rattle.std.specs.Prelude.{◌<◌, ◌≤◌};
+ghost use Rattle.std.specs.Prelude.{◌≤◌, IfSome};
 
 use crate::fact::Relation;
 
@@ -16,8 +16,7 @@ pub enum Kind {
 /// A literal over terms or over a row.
 #[derive(Clone, Copy)]
 pub enum LiteralKind {
-    Equal,
-    Different,
+    Terms { equal: bool },
     Compared(Relation),
 }
 
@@ -39,77 +38,32 @@ pub enum RuleKind {
 }
 
 impl Kind {
-    // The kind that a record's first byte stands for.
-    pub fn of(byte: u8) -> Option<Kind> {
-        match byte {
-            b'E' => Some(Kind::Literal(LiteralKind::Equal)),
-            b'D' => Some(Kind::Literal(LiteralKind::Different)),
-            b'G' => Some(Kind::Literal(LiteralKind::Compared(Relation::AtLeast))),
-            b'S' => Some(Kind::Literal(LiteralKind::Compared(Relation::Above))),
-            b'Z' => Some(Kind::Literal(LiteralKind::Compared(Relation::Zero))),
-            b'K' => Some(Kind::Reading),
-            b'B' => Some(Kind::Begin),
-            b'Y' => Some(Kind::Split),
-            _ => match RuleKind::of(byte) {
-                Some(rule) => Some(Kind::Infer(rule)),
-                None => None,
-            },
-        }
-    }
-
-    // The bytes of a record, its kind among them.
-    pub fn length(self) -> usize
-        ensures { (0 < result) × (result ≤ 25) }
+    // The kind that a record's first byte stands for, and how many bytes its body has.
+    pub fn of(byte: u8) -> Option<(Kind, usize)>
+        ensures { IfSome result (λ x. x.1 ≤ 24) }
     {
-        match self {
-            Kind::Literal(LiteralKind::Equal) => 9,
-            Kind::Literal(LiteralKind::Different) => 9,
-            Kind::Literal(LiteralKind::Compared(_)) => 25,
-            Kind::Reading => 4,
-            Kind::Begin => 1,
-            Kind::Infer(rule) => rule.length(),
-            Kind::Split => 3,
-        }
-    }
-}
-
-impl RuleKind {
-    // The rule that a record's first byte stands for.
-    pub fn of(byte: u8) -> Option<RuleKind> {
-        match byte {
-            b'R' => Some(RuleKind::Reflexivity),
-            b'T' => Some(RuleKind::Transitivity),
-            b'C' => Some(RuleKind::Congruence),
-            b'N' => Some(RuleKind::Clash),
-            b'X' => Some(RuleKind::Propagate),
-            b'O' => Some(RuleKind::Zero),
-            b'M' => Some(RuleKind::Add),
-            b'Q' => Some(RuleKind::Antisymmetry),
-            b'F' => Some(RuleKind::Falsify),
-            b'I' => Some(RuleKind::Strengthen),
-            b'U' => Some(RuleKind::Cut),
-            b'P' => Some(RuleKind::Push),
-            _ => None,
-        }
-    }
-
-    // The bytes of a rule's record, its kind among them.
-    pub fn length(self) -> usize
-        ensures { (0 < result) × (result ≤ 25) }
-    {
-        match self {
-            RuleKind::Reflexivity => 6,
-            RuleKind::Transitivity => 4,
-            RuleKind::Congruence => 5,
-            RuleKind::Clash => 3,
-            RuleKind::Propagate => 2,
-            RuleKind::Zero => 2,
-            RuleKind::Add => 7,
-            RuleKind::Antisymmetry => 5,
-            RuleKind::Falsify => 2,
-            RuleKind::Strengthen => 2,
-            RuleKind::Cut => 2,
-            RuleKind::Push => 2,
-        }
+        Some(match byte {
+            b'E' => (Kind::Literal(LiteralKind::Terms { equal: true }), 8),
+            b'D' => (Kind::Literal(LiteralKind::Terms { equal: false }), 8),
+            b'G' => (Kind::Literal(LiteralKind::Compared(Relation::AtLeast)), 24),
+            b'S' => (Kind::Literal(LiteralKind::Compared(Relation::Above)), 24),
+            b'Z' => (Kind::Literal(LiteralKind::Compared(Relation::Zero)), 24),
+            b'K' => (Kind::Reading, 3),
+            b'B' => (Kind::Begin, 0),
+            b'R' => (Kind::Infer(RuleKind::Reflexivity), 5),
+            b'T' => (Kind::Infer(RuleKind::Transitivity), 3),
+            b'C' => (Kind::Infer(RuleKind::Congruence), 4),
+            b'N' => (Kind::Infer(RuleKind::Clash), 2),
+            b'X' => (Kind::Infer(RuleKind::Propagate), 1),
+            b'O' => (Kind::Infer(RuleKind::Zero), 1),
+            b'M' => (Kind::Infer(RuleKind::Add), 6),
+            b'Q' => (Kind::Infer(RuleKind::Antisymmetry), 4),
+            b'F' => (Kind::Infer(RuleKind::Falsify), 1),
+            b'I' => (Kind::Infer(RuleKind::Strengthen), 1),
+            b'U' => (Kind::Infer(RuleKind::Cut), 1),
+            b'P' => (Kind::Infer(RuleKind::Push), 1),
+            b'Y' => (Kind::Split, 2),
+            _ => return None,
+        })
     }
 }

@@ -2,23 +2,29 @@
 //! in docs/. It holds facts in plain vectors, and copies them for each branch of a split.
 #![tactic(auto)]
 
+ghost use Rattle.std.specs.Prelude.{◌<◌, ◌≤◌, length, IfOk};
+
 mod cause;
 mod claim;
 mod equality;
 mod fact;
 mod fields;
 mod kind;
+mod refusal;
 mod rows;
 mod sent;
 mod side;
 mod state;
 mod verdict;
 
-use cause::{Cause, Stop};
+use cause::Stop;
+pub use cause::{Cause, Theory};
 use claim::Claim;
+use fields::Fields;
 use kind::Kind;
+pub use refusal::Refusal;
 use std::alloc::{AllocError, Global};
-pub use verdict::Verdict;
+pub use verdict::{Taken, Verdict};
 
 /// The most bytes of a file.
 pub const LONGEST_FILE: usize = 32_768;
@@ -31,32 +37,39 @@ pub enum Arithmetic {
 }
 
 impl Arithmetic {
-    // The number of its theory.
-    fn theory(self) -> usize {
+    // Its theory.
+    fn theory(self) -> Theory {
         match self {
-            Arithmetic::Fractions => 2,
-            Arithmetic::Whole => 3,
+            Arithmetic::Fractions => Theory::Fractions,
+            Arithmetic::Whole => Theory::Whole,
         }
     }
+}
+
+// Takes the record that begins at an offset, and tells where the next one begins.
+fn take_at(claim: &mut Claim, file: &[u8], offset: usize) -> Result<usize, Stop>
+    requires { offset < length file.now }
+    ensures { IfOk result (λ end. (offset < end) × (end ≤ length file.now)) }
+{
+    let (kind, length) = Kind::of(file[offset]).ok_or(Refusal::UnknownKind)?;
+    let begin = offset + 1;
+    let end = begin + length;
+    let body = file.get(begin..end).ok_or(Refusal::BodyCutShort)?;
+    claim.take(kind, &mut Fields::of(body))?;
+    Ok(end)
 }
 
 /// Checks a file: takes its records one after the other until one is refused or the file ends.
 pub fn check(heap: Global, arithmetic: Arithmetic, file: &[u8]) -> Result<Verdict, AllocError> {
     let mut claim = Claim::new(heap, arithmetic);
-    if file.len() > LONGEST_FILE {
-        return Ok(claim.refused(0, Cause::of(1)));
-    }
     let mut offset = 0;
+    if file.len() > LONGEST_FILE {
+        return Ok(claim.refused(offset, Cause::from(Refusal::InputTooLong)));
+    }
+    // A kind fixes the length of its records, so no iterator of the library goes from one to the next.
     while offset < file.len() {
-        let Some(kind) = Kind::of(file[offset]) else {
-            return Ok(claim.refused(offset, Cause::of(2)));
-        };
-        let end = offset + kind.length();
-        let Some(record) = file.get(offset..end) else {
-            return Ok(claim.refused(offset, Cause::of(3)));
-        };
-        match claim.take(kind, record) {
-            Ok(()) => offset = end,
+        match take_at(&mut claim, file, offset) {
+            Ok(end) => offset = end,
             Err(Stop::Refused(cause)) => return Ok(claim.refused(offset, cause)),
             Err(Stop::Memory) => return Err(AllocError),
         }

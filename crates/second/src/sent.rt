@@ -1,8 +1,18 @@
 // What a record sends: literals, readings, rules and splits with their fields in range.
 use crate::cause::Cause;
-use crate::fact::{Equation, Fact, Relation, Row, RowFact, Term};
-use crate::fields;
+use crate::fact::{Equation, Fact, Names, Relation, Row, RowFact, Term};
+use crate::fields::Fields;
 use crate::kind::{LiteralKind, RuleKind};
+
+/// The count that the converter clips at.
+const CLIPPED: u16 = 4095;
+
+/// Which argument of a symbol.
+#[derive(Clone, Copy)]
+pub enum Position {
+    First,
+    Second,
+}
 
 /// A rule that is applied at an address.
 #[derive(Clone, Copy)]
@@ -16,7 +26,7 @@ pub enum Rule {
     },
     Congruence {
         fact: u8,
-        position: u8,
+        position: Position,
         turned: bool,
     },
     Clash {
@@ -30,8 +40,7 @@ pub enum Rule {
     },
     Antisymmetry {
         fact: u8,
-        first: u8,
-        second: u8,
+        names: Names,
     },
     Falsify,
     Strengthen,
@@ -40,20 +49,15 @@ pub enum Rule {
 }
 
 // The fact that a literal states.
-pub fn read_literal(kind: LiteralKind, record: &[u8]) -> Result<Fact, Cause> {
+pub fn read_literal(kind: LiteralKind, fields: &mut Fields) -> Result<Fact, Cause> {
     match kind {
-        LiteralKind::Equal => {
-            let left = fields::term(record, 1)?;
-            let right = fields::term(record, 5)?;
-            Ok(Fact::OfTerms(Equation::equal(left, right)))
-        }
-        LiteralKind::Different => {
-            let left = fields::term(record, 1)?;
-            let right = fields::term(record, 5)?;
-            Ok(Fact::OfTerms(Equation::different(left, right)))
+        LiteralKind::Terms { equal } => {
+            let left = fields.term()?;
+            let right = fields.term()?;
+            Ok(Fact::OfTerms(Equation { left, right, equal }))
         }
         LiteralKind::Compared(relation) => {
-            let row = fields::row(record)?;
+            let row = fields.row()?;
             Ok(Fact::OfRow(RowFact { row, relation }))
         }
     }
@@ -67,9 +71,9 @@ pub struct Reading {
 }
 
 // The name and the count of a reading.
-pub fn read_reading(record: &[u8]) -> Result<Reading, Cause> {
-    let name = fields::name(record, 1)?;
-    let count = fields::count(record, 2)?;
+pub fn read_reading(fields: &mut Fields) -> Result<Reading, Cause> {
+    let name = fields.name()?;
+    let count = fields.count()?;
     Ok(Reading { name, count })
 }
 
@@ -86,7 +90,7 @@ impl Reading {
 
     // c + 1 − n > 0, but for a clipped count, which bounds nothing from above.
     pub fn high(self) -> Option<Fact> {
-        if self.count >= 4095 {
+        if self.count >= CLIPPED {
             return None;
         }
         let mut row = Row::constant(i128::from(self.count).saturating_add(1));
@@ -98,58 +102,37 @@ impl Reading {
     }
 }
 
-// The two names of a split.
-pub fn read_split(record: &[u8]) -> Result<(u8, u8), Cause> {
-    let first = fields::name(record, 1)?;
-    let second = fields::name(record, 2)?;
-    Ok((first, second))
-}
-
-// The rule of a record, whose address is at 1 and whose fact, if it has one, is at 2.
-pub fn read_rule(kind: RuleKind, record: &[u8]) -> Result<Rule, Cause> {
-    let fact = fields::byte(record, 2);
-    match kind {
-        RuleKind::Reflexivity => Ok(Rule::Reflexivity {
-            term: fields::term(record, 2)?,
-        }),
-        RuleKind::Transitivity => Ok(Rule::Transitivity {
-            fact,
-            turned: fields::turned(record, 3)?,
-        }),
-        RuleKind::Congruence => congruence(fact, record),
-        RuleKind::Clash => Ok(Rule::Clash { fact }),
-        RuleKind::Propagate => Ok(Rule::Propagate),
-        RuleKind::Zero => Ok(Rule::Zero),
-        RuleKind::Add => Ok(Rule::Add {
-            fact,
-            factor: fields::factor(record, 3)?,
-        }),
-        RuleKind::Antisymmetry => antisymmetry(fact, record),
-        RuleKind::Falsify => Ok(Rule::Falsify),
-        RuleKind::Strengthen => Ok(Rule::Strengthen),
-        RuleKind::Cut => Ok(Rule::Cut),
-        RuleKind::Push => Ok(Rule::Push),
-    }
-}
-
-// Congruence by a fact.
-fn congruence(fact: u8, record: &[u8]) -> Result<Rule, Cause> {
-    let position = fields::position(record, 3)?;
-    let turned = fields::turned(record, 4)?;
-    Ok(Rule::Congruence {
-        fact,
-        position,
-        turned,
-    })
-}
-
-// Antisymmetry by a fact.
-fn antisymmetry(fact: u8, record: &[u8]) -> Result<Rule, Cause> {
-    let first = fields::name(record, 3)?;
-    let second = fields::name(record, 4)?;
-    Ok(Rule::Antisymmetry {
-        fact,
-        first,
-        second,
+// The rule of a record, whose address is read already.
+pub fn read_rule(kind: RuleKind, fields: &mut Fields) -> Result<Rule, Cause> {
+    Ok(match kind {
+        RuleKind::Reflexivity => Rule::Reflexivity {
+            term: fields.term()?,
+        },
+        RuleKind::Transitivity => Rule::Transitivity {
+            fact: fields.byte(),
+            turned: fields.turned()?,
+        },
+        RuleKind::Congruence => Rule::Congruence {
+            fact: fields.byte(),
+            position: fields.position()?,
+            turned: fields.turned()?,
+        },
+        RuleKind::Clash => Rule::Clash {
+            fact: fields.byte(),
+        },
+        RuleKind::Propagate => Rule::Propagate,
+        RuleKind::Zero => Rule::Zero,
+        RuleKind::Add => Rule::Add {
+            fact: fields.byte(),
+            factor: fields.factor()?,
+        },
+        RuleKind::Antisymmetry => Rule::Antisymmetry {
+            fact: fields.byte(),
+            names: fields.names()?,
+        },
+        RuleKind::Falsify => Rule::Falsify,
+        RuleKind::Strengthen => Rule::Strengthen,
+        RuleKind::Cut => Rule::Cut,
+        RuleKind::Push => Rule::Push,
     })
 }

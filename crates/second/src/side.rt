@@ -1,5 +1,7 @@
 // What stands at one address.
-use crate::cause::Cause;
+use crate::cause::{Cause, Stop};
+use crate::fact::Names;
+use crate::refusal::Refusal;
 use std::alloc::{AllocError, Global};
 
 /// The most facts that an address holds.
@@ -12,12 +14,18 @@ pub struct Side<F> {
     current: Option<F>,
 }
 
-/// What a rule comes to.
+/// What a rule comes to: a fact that becomes current or is kept where the rule is applied, or an effect.
 #[derive(Clone, Copy)]
 pub enum Outcome<F> {
     Current(F),
     Push(F),
-    HandOn(u8, u8),
+    Beyond(Effect),
+}
+
+/// What concerns more than the address where a rule is applied.
+#[derive(Clone, Copy)]
+pub enum Effect {
+    HandOn(Names),
     Contradiction,
 }
 
@@ -30,9 +38,9 @@ impl<F: Copy> Side<F> {
         }
     }
 
-    // Whether there is no room for a fact.
-    pub fn is_full(&self) -> bool {
-        self.facts.len() >= MOST_FACTS
+    // Refused unless there is room for a fact.
+    pub fn room(&self) -> Result<(), Refusal> {
+        Refusal::TableFull.unless(self.facts.len() < MOST_FACTS)
     }
 
     // Adds a fact.
@@ -41,32 +49,42 @@ impl<F: Copy> Side<F> {
         Ok(())
     }
 
-    // Makes a fact current.
-    pub fn set_current(&mut self, fact: F) {
-        self.current = Some(fact);
+    // Adds a literal's fact, where there is room.
+    pub fn state(&mut self, fact: F) -> Result<(), Stop> {
+        self.room()?;
+        self.keep(fact)?;
+        Ok(())
     }
 
     // The current fact, which a rule needs.
-    pub fn current(&self) -> Result<F, Cause> {
-        self.current.ok_or(Cause::of(12))
+    pub fn current(&self) -> Result<F, Refusal> {
+        self.current.ok_or(Refusal::NoCurrentFact)
     }
 
     // The fact with this number.
     pub fn fact(&self, number: u8) -> Result<F, Cause> {
-        match self.facts.get(usize::from(number)) {
-            Some(fact) => Ok(*fact),
-            None => Err(Cause::no_fact(self.facts.len())),
-        }
+        let count = self.facts.len();
+        self.facts
+            .get(usize::from(number))
+            .copied()
+            .ok_or(Cause::no_fact(count))
     }
 
     // Pushes the current fact, where there is room.
-    pub fn push(&self) -> Result<Outcome<F>, Cause> {
+    pub fn push(&self) -> Result<Outcome<F>, Refusal> {
         let fact = self.current()?;
-        if self.is_full() {
-            Err(Cause::of(18))
-        } else {
-            Ok(Outcome::Push(fact))
+        self.room()?;
+        Ok(Outcome::Push(fact))
+    }
+
+    // Makes the change that a rule comes to here, and gives its effect, if it has one.
+    pub fn take(&mut self, outcome: Outcome<F>) -> Result<Option<Effect>, AllocError> {
+        match outcome {
+            Outcome::Current(fact) => self.current = Some(fact),
+            Outcome::Push(fact) => self.keep(fact)?,
+            Outcome::Beyond(effect) => return Ok(Some(effect)),
         }
+        Ok(None)
     }
 
     // The same facts with no current fact, as a new level begins with.

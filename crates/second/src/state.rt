@@ -1,8 +1,10 @@
 // What stands at both addresses.
-use crate::fact::{Equation, Order, RowFact};
+use crate::fact::{Equation, Names, RowFact};
+use crate::refusal::Refusal;
 use crate::side::Side;
 use crate::{equality, rows};
 use std::alloc::{AllocError, Global};
+use std::cmp::Ordering;
 
 /// Equality at address 0, rows at address 1, and how many splits are open.
 #[derive(Drop)]
@@ -22,25 +24,20 @@ impl State {
         }
     }
 
-    // Whether there is room for what is told, which each address keeps as one fact.
-    pub fn can_be_told(&self) -> bool {
-        !self.terms.is_full() && !self.rows.is_full()
+    // Refused unless there is room for what is told, which each address keeps as one fact.
+    pub fn room(&self) -> Result<(), Refusal> {
+        self.terms.room()?;
+        self.rows.room()
     }
 
     // Tells both addresses the order of two names.
-    pub fn tell(&mut self, first: u8, order: Order, second: u8) -> Result<(), AllocError> {
-        self.terms.keep(equality::told(first, order, second))?;
-        self.rows.keep(rows::told(first, order, second))
+    pub fn tell(&mut self, names: Names, order: Ordering) -> Result<(), AllocError> {
+        self.terms.keep(equality::told(names, order))?;
+        self.rows.keep(rows::told(names, order))
     }
 
     // A branch of a split: the same facts, no current ones, and the order of two names told.
-    pub fn branch(
-        &self,
-        heap: Global,
-        first: u8,
-        order: Order,
-        second: u8,
-    ) -> Result<State, AllocError> {
+    pub fn branch(&self, heap: Global, names: Names, order: Ordering) -> Result<State, AllocError> {
         let terms = self.terms.opened(heap)?;
         let rows = self.rows.opened(heap)?;
         let mut branch = State {
@@ -48,7 +45,7 @@ impl State {
             rows,
             depth: self.depth.saturating_add(1),
         };
-        branch.tell(first, order, second)?;
+        branch.tell(names, order)?;
         Ok(branch)
     }
 }
