@@ -53,7 +53,7 @@ module _ {T : Type 0} (places_of : T → Places) (book : Book) (file : List ℕ)
   -- ---- after the begin
 
   module _ (c : Claim T) (m start : ℕ) (o : Opened places_of book file m c) (begun : take start file ≡ take m file ++ begin_bytes) where
-    running_none : (d : Derivation T) → start ≤ length file → Reached places_of book d (places_of c.theory) o.literals [] [] [] → Running places_of book file (places_of c.theory) o.literals start start d
+    pub running_none : (d : Derivation T) → start ≤ length file → Reached places_of book d (places_of c.theory) o.literals [] [] [] → Running places_of book file (places_of c.theory) o.literals start start d
     running_none d inside h = record { steps = []; taken = []; fit = tt; within = inside; bytes = append-nil (take start file); reached = h }
 
     -- the steps of a file, where they were read from a reader of its bytes

@@ -1,5 +1,6 @@
 // Records of claim files, as they are written. The types are the generator's own: it shares no code with
 // what it tests.
+use arrayvec::ArrayVec;
 use std::alloc::{AllocError, Global};
 
 /// A term as it is sent, whether its fields are in range or not.
@@ -119,10 +120,13 @@ impl From<Relation> for u8 {
     }
 }
 
-/// Records, in the order of their file.
+/// The most bytes of a record: a literal over a row.
+const LONGEST_RECORD: usize = 25;
+
+/// Records, in the order of their file. They lie in the list, and not each on the heap.
 #[derive(Drop)]
 pub struct Records {
-    pub list: Vec<Vec<u8>>,
+    pub list: Vec<ArrayVec<u8, LONGEST_RECORD>>,
 }
 
 impl Records {
@@ -135,14 +139,18 @@ impl Records {
 
     // Their bytes.
     pub fn into_bytes(self) -> Result<Vec<u8>, AllocError> {
-        let heap = *self.list.allocator();
-        self.list.as_slice().concat(heap)
+        let mut bytes = Vec::new(*self.list.allocator());
+        for record in self.list.iter() {
+            bytes.extend_from_slice(record.as_slice())?;
+        }
+        Ok(bytes)
     }
 
-    // A record of these bytes.
+    // A record of these bytes, which are at most 25: a longer one would end as want of memory does.
     pub fn put(&mut self, record: &[u8]) -> Result<(), AllocError> {
-        let heap = *self.list.allocator();
-        self.list.push(Vec::from_slice(heap, record)?)?;
+        let mut bytes = ArrayVec::new();
+        bytes.extend(record.iter().copied())?;
+        self.list.push(bytes)?;
         Ok(())
     }
 
@@ -155,12 +163,12 @@ impl Records {
 
     // A literal over a row.
     pub fn row(&mut self, relation: Relation, row: &Row) -> Result<(), AllocError> {
-        let heap = *self.list.allocator();
-        let mut record = vec![in heap; u8::from(relation)]?;
-        record.extend_from_slice(&row.constant.to_le_bytes())?;
+        let mut record = ArrayVec::new();
+        record.extend([u8::from(relation)])?;
+        record.extend(row.constant.to_le_bytes())?;
         for pair in row.pairs {
-            record.push(pair.name)?;
-            record.extend_from_slice(&pair.coefficient.to_le_bytes())?;
+            record.extend([pair.name])?;
+            record.extend(pair.coefficient.to_le_bytes())?;
         }
         self.list.push(record)?;
         Ok(())

@@ -90,13 +90,13 @@ module _ (r : Rules) (p : Place) (f : Fact) where
   kept_only : r.keeps f ≡ true → Only (literal_wanted (alone r) f) (Some f)
   kept_only keep = subst (λ k. Only (literal_wanted (alone r) f) (cond k (Some f) None)) keep (literal_only r f)
 
-  literal_full : r.keeps f ≡ true → most_facts ≤ length p.facts → LiteralAnswer (at_zero (Some p)) (literal_wanted (alone r) f) (Some Refusal.TableFull)
+  pub literal_full : r.keeps f ≡ true → most_facts ≤ length p.facts → LiteralAnswer (at_zero (Some p)) (literal_wanted (alone r) f) (Some Refusal.TableFull)
   literal_full keep many = LiteralAnswer.full (full p (literal_wanted (alone r) f) f (kept_only keep) many)
 
-  literal_taken : r.keeps f ≡ true → length p.facts < most_facts → LiteralAnswer (at_zero (Some p)) (literal_wanted (alone r) f) None
+  pub literal_taken : r.keeps f ≡ true → length p.facts < most_facts → LiteralAnswer (at_zero (Some p)) (literal_wanted (alone r) f) None
   literal_taken keep few = LiteralAnswer.taken (0, f, kept_only keep 0) (room p (literal_wanted (alone r) f) (Some f) (kept_only keep) few)
 
-  literal_took : r.keeps f ≡ true → (q : Place) → q ≡ add f p → Took (at_zero (Some p)) (literal_wanted (alone r) f) (at_zero (Some q))
+  pub literal_took : r.keeps f ≡ true → (q : Place) → q ≡ add f p → Took (at_zero (Some p)) (literal_wanted (alone r) f) (at_zero (Some q))
   literal_took keep q e = subst (λ x. Took (at_zero (Some p)) (literal_wanted (alone r) f) (at_zero (Some x))) (sym e) (took p (literal_wanted (alone r) f) f (kept_only keep))
 
   -- a literal that is kept is refused where the facts are as many as can be
@@ -111,13 +111,13 @@ module _ (r : Rules) (p : Place) (k : Comparison) where
   told_only : (o : Option Fact) → o ≡ r.told k → Only (telling_wanted (alone r) k) o
   told_only o e = subst (Only (telling_wanted (alone r) k)) (sym e) (telling_only r k)
 
-  telling_full : (f : Fact) → Some f ≡ r.told k → most_facts ≤ length p.facts → TellingAnswer (at_zero (Some p)) (telling_wanted (alone r) k) (Some Refusal.TableFull)
+  pub telling_full : (f : Fact) → Some f ≡ r.told k → most_facts ≤ length p.facts → TellingAnswer (at_zero (Some p)) (telling_wanted (alone r) k) (Some Refusal.TableFull)
   telling_full f e many = TellingAnswer.full (full p (telling_wanted (alone r) k) f (told_only (Some f) e) many)
 
-  telling_taken : (f : Fact) → Some f ≡ r.told k → length p.facts < most_facts → TellingAnswer (at_zero (Some p)) (telling_wanted (alone r) k) None
+  pub telling_taken : (f : Fact) → Some f ≡ r.told k → length p.facts < most_facts → TellingAnswer (at_zero (Some p)) (telling_wanted (alone r) k) None
   telling_taken f e few = TellingAnswer.taken (room p (telling_wanted (alone r) k) (Some f) (told_only (Some f) e) few)
 
-  telling_took : (f : Fact) → Some f ≡ r.told k → (q : Place) → q ≡ add f p → Took (at_zero (Some p)) (telling_wanted (alone r) k) (at_zero (Some q))
+  pub telling_took : (f : Fact) → Some f ≡ r.told k → (q : Place) → q ≡ add f p → Took (at_zero (Some p)) (telling_wanted (alone r) k) (at_zero (Some q))
   telling_took f e q same = subst (λ x. Took (at_zero (Some p)) (telling_wanted (alone r) k) (at_zero (Some x))) (sym same) (took p (telling_wanted (alone r) k) f (told_only (Some f) e))
 
   pub telling_none : None ≡ r.told k → TellingAnswer (at_zero (Some p)) (telling_wanted (alone r) k) None × Took (at_zero (Some p)) (telling_wanted (alone r) k) (at_zero (Some p))

@@ -12,7 +12,7 @@ use Rattle.theory.specs.Premises.{by_current, by_fact, numbered}
 use Rattle.theory.specs.Rules.{AllTrue, OutcomeTrue}
 use Rattle.theory.specs.declared.inference.Outcome.{Outcome}
 
-true_at : (v : Valuation) (fs : List Fact) (i : ℕ) (d : Fact) → AllTrue v fs → i < length fs → True v (get_or fs i d)
+pub true_at : (v : Valuation) (fs : List Fact) (i : ℕ) (d : Fact) → AllTrue v fs → i < length fs → True v (get_or fs i d)
 true_at v [] i d all inside = absurd (omega arith)
 true_at v (f ∷ fs) zero d all inside = all.0
 true_at v (f ∷ fs) (suc i) d all inside = true_at v fs i d all.1 (omega arith)

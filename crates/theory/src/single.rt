@@ -86,18 +86,20 @@ impl<L: Logic> Theory for Single<L> {
             facts: self.table.facts(),
             current: &self.current,
         };
-        let outcome = self.logic.outcome(inference, premises)?;
-        match outcome {
-            Outcome::Current(fact) => self.current = Some(fact),
-            Outcome::Pushed(fact) => {
-                let theory = self.logic.number();
-                self.table
-                    .push(&fact)
-                    .map_err(|refusal| Cause::from(refusal).by(theory))?;
+        let answer = self.logic.outcome(inference, premises);
+        if let Ok(outcome) = answer {
+            match outcome {
+                Outcome::Current(fact) => self.current = Some(fact),
+                Outcome::Pushed(fact) => {
+                    let theory = self.logic.number();
+                    self.table
+                        .push(&fact)
+                        .map_err(|refusal| Cause::from(refusal).by(theory))?;
+                }
+                Outcome::Equal(_, _) | Outcome::Contradiction => {}
             }
-            Outcome::Equal(_, _) | Outcome::Contradiction => {}
         }
-        Ok(outcome)
+        answer
     }
 
     fn open_refusal(&self) -> Option<Refusal> {
