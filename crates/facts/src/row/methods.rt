@@ -15,6 +15,9 @@ fn fits(number: i64) -> bool
     (-ROW_LIMIT..=ROW_LIMIT).contains(&number)
 }
 
+// Inlined, as `Row::new` is: of a row that is known nothing is left to test, and one that is made is
+// not copied on its way to the caller.
+#[inline(always)]
 fn all_fit(numbers: &[i64; 32]) -> bool
     ensures { Decides result (All (Sized row_limit) numbers.now) }
 {
@@ -23,6 +26,7 @@ fn all_fit(numbers: &[i64; 32]) -> bool
 
 impl Row {
     // The row with these numbers, or none if one of them is above the limit in size.
+    #[inline(always)]
     pub fn new(constant: i64, coefficients: [i64; 32]) -> Option<Row>
         ensures { MatchOption result (Sized row_limit constant → AllSized row_limit coefficients → ⊥) (λ row. (row.constant ≡ constant) × (row.coefficients ≡ coefficients)) }
     {
